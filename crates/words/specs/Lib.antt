@@ -1,0 +1,4 @@
+-- What every crate above says about bytes, and the laws for it.
+pub mod Bytes
+pub mod Bits
+pub mod First
