@@ -1,0 +1,6 @@
+-- Document 01's base, in its order: what must be believed.
+pub mod Limits
+pub mod Decide
+pub mod Types
+pub mod Module
+pub mod Flat
