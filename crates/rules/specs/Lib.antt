@@ -14,3 +14,7 @@ pub mod Typing
 pub mod WellTyped
 pub mod Decision
 pub mod Verdict
+-- Cases: nothing below says what the rules are.
+pub mod Quick
+pub mod Table
+pub mod CasesFile
