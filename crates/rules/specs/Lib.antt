@@ -1,9 +1,21 @@
 -- Document 01's base, in its order: what must be believed.
 pub mod Limits
 pub mod Decide
+-- the module file and its rules
+pub mod Stages
+pub mod File
 pub mod Types
 pub mod Module
 pub mod Flat
+pub mod Walk
+pub mod Operands
+pub mod Records
+pub mod Decode
+pub mod Typing
+pub mod WellTyped
+pub mod Decision
+pub mod Verdict
+-- the machine
 pub mod State
 pub mod Heap
 pub mod Arithmetic
