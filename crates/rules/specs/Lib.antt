@@ -23,3 +23,5 @@ pub mod Step
 pub mod Writes
 pub mod Run
 pub mod StateTest
+pub mod Host
+pub mod Claim
