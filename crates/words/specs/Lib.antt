@@ -2,3 +2,4 @@
 pub mod Bytes
 pub mod Bits
 pub mod First
+pub mod ByteLaws
