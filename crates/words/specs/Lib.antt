@@ -3,3 +3,6 @@ pub mod Bytes
 pub mod Bits
 pub mod First
 pub mod ByteLaws
+pub mod Choose
+pub mod FirstLaws
+pub mod BitLaws
