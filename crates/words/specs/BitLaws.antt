@@ -129,6 +129,13 @@ or-sets b (suc i) =
     ∙ ap (λ (x : ℕ). x * 2 + max (b % 2) 0) (or-sets (b / 2) i)
     ∙ omega arith
 
+-- the mask can be taken away again, and then the bit is cleared
+pub or-covers : (b i : ℕ) → 2 ^ i ≤ bitOr b (2 ^ i)
+or-covers b i = rw (or-sets b i, set-clear b i) (omega arith)
+
+pub or-clears : (b i : ℕ) → bitOr b (2 ^ i) - 2 ^ i ≡ withBit b i 0
+or-clears b i = rw (or-sets b i, set-clear b i) (omega arith)
+
 -- 1 << k in a byte
 pub one-shifted : (k : ℕ) → k < 8 → 1 * 2 ^ k % 256 ≡ 2 ^ k
 one-shifted k l = let p : 2 ^ k < 2 ^ 8 = pow-lt l in omega arith

@@ -5,7 +5,7 @@ use mathlib.Core.Path.{_≡_, refl, sym, ap, ap₂, _∙_}
 use mathlib.Core.List.{List, [], _∷_, _++_}
 use mathlib.Core.Logic.{_⊎_, inl, inr, ⊎-elim}
 use Prim.Native.Nat.{ℕ, zero, suc, _+_, _-_, _*_, _/_, _%_, _^_, _≤_, _<_}
-use native.Mathlib.Nat.{not-suc-le-zero, mod-one, mod-lt, mod-eq-of-lt, pow-suc, add-zero, zero-add, div-div-eq-div-mul}
+use native.Mathlib.Nat.{not-suc-le-zero, mod-one, mod-lt, mod-eq-of-lt, pow-suc, add-zero, zero-add, suc-add, mul-comm, mul-assoc, div-div-eq-div-mul}
 use native.Mathlib.Numerals.{add-one, one-add, towards-suc}
 use native.Mathlib.Decide.{decLt}
 use native.Mathlib.Omega.{arith}
@@ -160,6 +160,13 @@ module _ {A : Type 0} where
 
   -- ---- against what stands there
 
+  -- past the end nothing is written
+  pub splice-past : (s : List A) (i : ℕ) (l : List A) → length s ≤ i → splice s i l ≡ s
+  unfolding splice
+  splice-past [] i l h = refl
+  splice-past (x ∷ s) (suc i) l h = ap (λ (r : List A). x ∷ r) (splice-past s i l (omega arith))
+  splice-past (x ∷ s) zero l h = absurd (not-suc-le-zero h)
+
   same-at : (d : A) (s : List A) (i : ℕ) (l : List A) → ((j k : ℕ) → j ≡ i + k → k < length l → j < length s → getD s j d ≡ getD l k d)
       → splice s i l ≡ s
   unfolding splice
@@ -281,6 +288,19 @@ number-zero (suc n) s i h =
     let b : number n s (suc i) ≡ 0 = number-zero n s (suc i) (λ j l m. h j (omega arith) (omega arith)) in
     omega arith
 
+-- the first n bytes and the m after them
+pub number-add : (n m : ℕ) (s : Bytes) (i : ℕ) → number (n + m) s i ≡ number n s i + 256 ^ n * number m s (i + n)
+unfolding number
+number-add zero m s i = rw (zero-add m, add-zero i) (omega arith)
+number-add (suc n) m s i =
+    let e : i + suc n ≡ suc i + n = omega arith in
+    let h = number-add n m s (suc i) in
+    let q : 256 ^ n * 256 * number m s (suc i + n) ≡ 256 * (256 ^ n * number m s (suc i + n)) = ap (λ (x : ℕ). x * number m s (suc i + n)) (mul-comm (256 ^ n) 256) ∙ mul-assoc 256 (256 ^ n) (number m s (suc i + n)) in
+    rw (suc-add n m, e, pow-suc) (omega arith)
+
+pub number-halves : (s : Bytes) (i : ℕ) → number 4 s i ≡ number 2 s i + number 2 s (i + 2) * 65536
+number-halves s i = let h = number-add 2 2 s i in omega arith
+
 -- past the end all is 0
 pub byte-past : (s : Bytes) (i : ℕ) → length s ≤ i → byteAt s i ≡ 0
 byte-past s i h = List·getD-eq-default s 0 h
@@ -372,6 +392,10 @@ unfolding put fill
 fill-over-put m n i k s u v a b = splice-over s k (little m u) i (replicate n v) a (rw (length-little m u, length-replicate n v) b)
 
 -- ---- puts and numbers
+
+pub put-past : (n : ℕ) (s : Bytes) (i v : ℕ) → length s ≤ i → put n s i v ≡ s
+unfolding put
+put-past n s i v h = splice-past s i (little n v) h
 
 -- the bytes of a number that was read are those that were read
 pub little-number : (n : ℕ) (s : Bytes) (i k : ℕ) → AllBytes s → k < n → getD (little n (number n s i)) k 0 ≡ byteAt s (i + k)
