@@ -29,6 +29,11 @@ decPlaced (at d T) (at e U) = mapDec (λ h. ap₂ at (h .0) (h .1)) (λ x. (ap o
 unfoldable pub decPrims : {k : RegionKind} (l m : List (Placed k)) → Dec (l ≡ m)
 decPrims l m = decList decPlaced l m
 
+-- primitive T stands at distance d of the list
+pub data Has {k : RegionKind} : List (Placed k) → ℕ → Tree k → Type 0 where
+  here : {l : List (Placed k)} {d : ℕ} {T : Tree k} → Has (at d T ∷ l) d T
+  there : {p : Placed k} {l : List (Placed k)} {d : ℕ} {T : Tree k} → Has l d T → Has (p ∷ l) d T
+
 -- a size and the primitives in it
 pub record Layout (k : RegionKind) : Type 0 where
   pub size : ℕ

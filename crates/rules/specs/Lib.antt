@@ -1,6 +1,7 @@
 -- Document 01's base, in its order: what must be believed.
 pub mod Limits
 pub mod Decide
+-- the module file and its rules
 pub mod Stages
 pub mod File
 pub mod Types
@@ -14,7 +15,17 @@ pub mod Typing
 pub mod WellTyped
 pub mod Decision
 pub mod Verdict
--- Cases: nothing below says what the rules are.
+-- the machine
+pub mod State
+pub mod Heap
+pub mod Arithmetic
+pub mod Step
+pub mod Writes
+pub mod Run
+pub mod StateTest
+pub mod Host
+pub mod Claim
+-- cases: nothing below says what the rules are
 pub mod Quick
 pub mod Table
 pub mod CasesFile

@@ -1,0 +1,210 @@
+-- The claim of demand 3: one record about a list of calls as a whole. It is a definition; its proof is crate `soundness`.
+-- Assumes nothing.
+use mathlib.Core.Path.{_≡_}
+use mathlib.Core.Bool.{cond}
+use mathlib.Core.Logic.{_⊎_, _≢_}
+use mathlib.Core.List.{List, [], _∷_, _++_}
+use Prim.Native.Nat.{ℕ, zero, suc, _+_, _*_, _/_, _%_, _<_, _≤_}
+use lib.Dec.{eqb}
+use lib.ListN.{length}
+use Rattle.words.specs.Bytes.{Bytes, AllBytes, byteAt}
+use Rattle.rules.specs.Limits.{pages, pageBytes, memoryAt, memoryBytes}
+use Rattle.rules.specs.Types.{variable, live, Variable, Tree, ptr, width}
+use Rattle.rules.specs.Module.{Module, regions}
+use Rattle.rules.specs.Flat.{Has, flat, size}
+use Rattle.rules.specs.Decode.{moduleOf}
+use Rattle.rules.specs.Verdict.{verdictOf}
+use Rattle.rules.specs.State.{View, view, memoryPlace}
+use Rattle.rules.specs.Heap.{close, Live, typeOf, heapTyping, Stands}
+use Rattle.rules.specs.Step.{Effect, set, fetch, save, takePlace, grantPage, freePlace, goTo, emit, push, pop, finish, stop, stuck, effectOf, grantedBy, handedBackBy}
+use Rattle.rules.specs.Writes.{applyState}
+use Rattle.rules.specs.Run.{Step, stateAfter, outputAfter, Trace}
+use Rattle.rules.specs.StateTest.{Listed}
+use Rattle.rules.specs.Host.{Outcome, Went, refused, went, Opened, opened, Tested, passed, goOf, traceOf, openOf, testOf, leftState}
+use Rattle.rules.specs.declared.Verdict.{Verdict}
+use Rattle.rules.specs.declared.Verdict.the-variants.{Accepted, Refused}
+
+-- ---- what a load or store touches
+
+-- Address i lies in place j of page p, whose objects have size s: inside one object, used or free.
+pub record InObject (i p j s : ℕ) : Type 0 where
+  pub low : pageBytes * p + s * j ≤ i
+  pub high : i < pageBytes * p + s * suc j
+  pub whole : s * suc j ≤ pageBytes
+
+-- Address i lies in a primitive of the run of T at x.
+pub record InRun (m : Module) (T : Tree live) (x i : ℕ) : Type 0 where
+  pub distance : ℕ
+  pub type : Tree live
+  pub has : Has (flat m T .prims) distance type
+  pub low : x + distance ≤ i
+  pub high : i < x + distance + width type
+
+-- "The value that the type of a pointer not zero names is that run of primitives at its address." Register b of the top frame k
+-- has type pointer to `target` in region variable `within`; the run of the target, closed by the frame's map, stands at its
+-- address in the live region to which the map leads, whole inside one object; and the w bytes touched from x on lie in that run.
+pub record Touches (m : Module) (v : View) (k b x w : ℕ) : Type 0 where
+  pub target : Tree variable
+  pub within : Variable
+  pub register : b < m .function (v .fn k) .registers
+  pub type : m .function (v .fn k) .registerType b ≡ ptr target within
+  pub address : v .reg k b ≡ x
+  pub scope : within .number < regions (m .function (v .fn k))
+  pub alive : Live m (v .fn) (v .map) (suc k) (suc (v .map k (within .number)))
+  pub run : Stands m (heapTyping m v (suc k)) (close (v .map k) target) (v .map k (within .number)) x
+  pub object : (i : ℕ) → x ≤ i → i < x + size m target
+      → InObject i (x / pageBytes) (x % pageBytes / size m (typeOf m (v .fn) (v .map) (suc k) (v .map k (within .number)))) (size m (typeOf m (v .fn) (v .map) (suc k) (v .map k (within .number))))
+  pub bytes : (i : ℕ) → x ≤ i → i < x + w → InRun m (close (v .map k) target) x i
+
+-- ---- what else a step depends on and changes
+
+-- states that differ in page bytes only
+pub record SameButPages (s t : Bytes) : Type 0 where
+  pub lengths : length s ≡ length t
+  pub bytes : (i : ℕ) → i < memoryAt → byteAt s i ≡ byteAt t i
+
+-- the page bytes that an effect reads
+abbrev pub Reads : Effect → ℕ → Type 0
+Reads (set a x) i = ⊥
+Reads (fetch b a x w) i = (x ≤ i) × (i < x + w)
+Reads (save b x w y) i = ⊥
+Reads (takePlace p j a x) i = ⊥
+Reads (grantPage p r a) i = ⊥
+Reads (freePlace p j) i = ⊥
+Reads (goTo d) i = ⊥
+Reads (emit x) i = ⊥
+Reads (push g μ ρ) i = ⊥
+Reads (pop c a x) i = ⊥
+Reads (finish x) i = ⊥
+Reads (stop n) i = ⊥
+Reads stuck i = ⊥
+
+-- the page bytes that an effect may change: a store's, and a granted page
+abbrev pub Changes : Effect → ℕ → Type 0
+Changes (set a x) i = ⊥
+Changes (fetch b a x w) i = ⊥
+Changes (save b x w y) i = (x ≤ i) × (i < x + w)
+Changes (takePlace p j a x) i = ⊥
+Changes (grantPage p r a) i = i / pageBytes ≡ p
+Changes (freePlace p j) i = ⊥
+Changes (goTo d) i = ⊥
+Changes (emit x) i = ⊥
+Changes (push g μ ρ) i = ⊥
+Changes (pop c a x) i = ⊥
+Changes (finish x) i = ⊥
+Changes (stop n) i = ⊥
+Changes stuck i = ⊥
+
+-- ---- one step of a list
+
+pub record SafeStep (m : Module) (t : Step) : Type 0 where
+  -- it is the step that the rules prescribe for the top frame
+  pub frame : view (t .state) .frames ≡ suc (t .top)
+  pub is : t .effect ≡ effectOf m (t .form) (view (t .state))
+  -- it moves on, ends or stops for a listed reason
+  pub moves : t .effect ≢ stuck
+  pub stops : (n : ℕ) → t .effect ≡ stop n → Listed n
+  -- loads and stores touch the value that their pointer's type names
+  pub loads : (b a x w : ℕ) → t .effect ≡ fetch b a x w → Touches m (view (t .state)) (t .top) b x w
+  pub stores : (b x w y : ℕ) → t .effect ≡ save b x w y → Touches m (view (t .state)) (t .top) b x w
+  -- no other page byte bears on what it does or leaves, and none other is changed
+  pub decides : (s : Bytes) → SameButPages s (t .state) → effectOf m (t .form) (view s) ≡ t .effect
+  pub reads : (s : Bytes) → SameButPages s (t .state)
+      → ((i : ℕ) → i < memoryBytes → Reads (t .effect) i → byteAt s (memoryPlace i) ≡ byteAt (t .state) (memoryPlace i))
+      → SameButPages (applyState m (t .top) (t .effect) s) (stateAfter m t)
+  pub keeps : (i : ℕ) → i < memoryBytes → ¬ Changes (t .effect) i → byteAt (stateAfter m t) (memoryPlace i) ≡ byteAt (t .state) (memoryPlace i)
+
+abbrev pub AllSafe : Module → List Step → Type 0
+AllSafe m [] = Unit {0}
+AllSafe m (t ∷ ts) = SafeStep m t × AllSafe m ts
+
+-- The steps of one call with its form, from state s and output o to state t and output u: each starts running, where the last one
+-- left state and output.
+abbrev pub Follows : Module → (form s o : Bytes) → List Step → (t u : Bytes) → Type 0
+Follows m form s o [] t u = (s ≡ t) × (o ≡ u)
+Follows m form s o (x ∷ l) t u =
+    ((x .form ≡ form) × (x .state ≡ s) × (x .output ≡ o) × (view s .status ≡ 0)) × Follows m form (stateAfter m x) (outputAfter x) l t u
+
+-- ---- pages
+
+-- how many of the first n pages are owned
+unfoldable pub ownedBelow : (ℕ → ℕ) → ℕ → ℕ
+ownedBelow owner zero = 0
+ownedBelow owner (suc p) = ownedBelow owner p + cond (eqb (owner p) 0) 0 1
+
+abbrev pub owned : Bytes → ℕ
+owned s = ownedBelow (view s .owner) pages
+
+-- pages granted and handed back in a list of steps
+unfoldable pub granted : List Step → ℕ
+granted [] = 0
+granted (t ∷ ts) = grantedBy (t .effect) + granted ts
+
+unfoldable pub handedBack : Module → List Step → ℕ
+handedBack m [] = 0
+handedBack m (t ∷ ts) = handedBackBy m (view (t .state)) (t .top) (t .effect) + handedBack m ts
+
+-- ---- a list of calls
+
+-- A call of going on: file, form and output as lent, and the budget.
+pub record Call : Type 0 where
+  pub file : Bytes
+  pub form : Bytes
+  pub output : Bytes
+  pub budget : ℕ
+  pub formBytes : AllBytes form
+
+abbrev pub goCall : Call → Bytes → Went
+goCall c s = goOf (c .file) (c .form) s (c .output) (c .budget)
+
+abbrev pub traceCall : Call → Bytes → Trace
+traceCall c s = traceOf (c .file) (c .form) s (c .output) (c .budget)
+
+-- "the module's file or another with which it is refused": the file of each call is f, or this very call, on the state as then
+-- left, is refused
+abbrev pub Lent : Bytes → List Call → Bytes → Type 0
+Lent f [] s = Unit {0}
+Lent f (c ∷ cs) s = ((c .file ≡ f) ⊎ ((n : ℕ) × (p : ℕ) × (goCall c s ≡ refused n p))) × Lent f cs (leftState (goCall c s) s)
+
+-- "The list's steps are those of its calls in order"; "Each call gets the state, byte for byte, as the last one left it"
+unfoldable pub stepsOf : List Call → Bytes → List Step
+stepsOf [] s = []
+stepsOf (c ∷ cs) s = traceCall c s .steps ++ stepsOf cs (leftState (goCall c s) s)
+
+unfoldable pub finalOf : List Call → Bytes → Bytes
+finalOf [] s = s
+finalOf (c ∷ cs) s = finalOf cs (leftState (goCall c s) s)
+
+-- A call answers: it is refused ("a refused call has none and changes nothing"), or reports the steps of its trace and leaves the
+-- trace's last state and output.
+pub data Answered (c : Call) (s : Bytes) : Type 0 where
+  wasRefused : (n p : ℕ) → goCall c s ≡ refused n p → traceCall c s .steps ≡ [] → Answered c s
+  wasRun : (a : Outcome) → goCall c s ≡ went a (length (traceCall c s .steps)) (traceCall c s .state) (traceCall c s .output)
+      → Follows (moduleOf (c .file)) (c .form) s (c .output) (traceCall c s .steps) (traceCall c s .state) (traceCall c s .output) → Answered c s
+
+abbrev pub AllAnswered : List Call → Bytes → Type 0
+AllAnswered [] s = Unit {0}
+AllAnswered (c ∷ cs) s = Answered c s × AllAnswered cs (leftState (goCall c s) s)
+
+-- Where a list starts: "from its opening or from a saved state that passes document 01's state test for it".
+pub data Start (f : Bytes) : Bytes → Type 0 where
+  fromOpening : (xs s : Bytes) {t : Bytes} → AllBytes xs → openOf f xs s ≡ opened t → Start f t
+  fromSaved : {s : Bytes} → AllBytes s → testOf f s ≡ passed → Start f s
+
+-- DEMAND 3, for the module of file f, a list of calls and the state where it starts.
+pub record Claim (f : Bytes) (calls : List Call) (s : Bytes) : Type 0 where
+  pub answers : AllAnswered calls s
+  pub steps : AllSafe (moduleOf f) (stepsOf calls s)
+  pub test : testOf f (finalOf calls s) ≡ passed
+  pub bytes : AllBytes (finalOf calls s)
+  pub pages : owned (finalOf calls s) + handedBack (moduleOf f) (stepsOf calls s) ≡ owned s + granted (stepsOf calls s)
+  pub none : view (finalOf calls s) .status ≡ 1 → owned (finalOf calls s) ≡ 0
+
+-- the verdict is accepted
+abbrev pub IsAccepted : Verdict → Type 0
+IsAccepted (Accepted t n f i) = Unit {0}
+IsAccepted (Refused n p) = ⊥
+
+-- DEMAND 3 for every accepted file, every list of calls and every start
+abbrev pub Demand3 : Type 0
+Demand3 = (f : Bytes) → IsAccepted (verdictOf f) → (calls : List Call) (s : Bytes) → Start f s → Lent f calls s → Claim f calls s
