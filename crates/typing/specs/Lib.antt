@@ -1,0 +1,6 @@
+-- Theorems on the verdict, definition by definition.
+pub mod Tests
+pub mod Lists
+pub mod Stages
+pub mod Walk
+pub mod Accepted
