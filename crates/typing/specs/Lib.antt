@@ -4,3 +4,6 @@ pub mod Lists
 pub mod Stages
 pub mod Walk
 pub mod Accepted
+pub mod Types
+pub mod Flat
+pub mod Facts
