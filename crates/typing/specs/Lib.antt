@@ -7,3 +7,6 @@ pub mod Accepted
 pub mod Types
 pub mod Flat
 pub mod Facts
+pub mod Refused
+pub mod Order
+pub mod Verdicts
