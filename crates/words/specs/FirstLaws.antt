@@ -1,14 +1,14 @@
 -- Laws of `first`, `allBelow` and `sumBelow`: what a scan shows at its end, and how it reads. Assumes nothing.
-use mathlib.Core.Path.{_≡_, refl, sym, ap, ap₂, _∙_}
-use mathlib.Core.Bool.{Bool, true, false, not, _&&_, false≢true, true≢false}
-use mathlib.Core.Logic.{_≢_, _⊎_, inl, inr, ⊎-elim, _↔_}
+use mathlib.Core.Path.{_≡_, refl, sym, ap₂, _∙_}
+use mathlib.Core.Bool.{Bool, true, false, _&&_, false≢true}
+use mathlib.Core.Logic.{_≢_, ⊎-elim, _↔_}
 use Prim.Native.Nat.{ℕ, zero, suc, _+_, _-_, _*_, _≤_, _<_}
 use native.Mathlib.Nat.{zero-add, add-zero, add-suc}
 use native.Mathlib.Numerals.{add-one}
 use native.Mathlib.Decide.{decLt}
 use native.Mathlib.Omega.{arith}
 use Rattle.words.specs.First.{firstFrom, first, allBelow, sumBelow}
-use Rattle.words.specs.Choose.{split, true-not-false, false-by, lt-or-le, eq-or-ne, bool-same}
+use Rattle.words.specs.Choose.{true-not-false, false-by, lt-or-le, bool-same}
 
 -- ---- the first failure
 
