@@ -1,0 +1,2 @@
+-- Laws of type terms, flat types, runs of primitives and values over heap typings.
+pub mod TypesOk
