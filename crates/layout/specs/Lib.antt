@@ -1,2 +1,4 @@
 -- Laws of type terms, flat types, runs of primitives and values over heap typings.
 pub mod TypesOk
+pub mod Lists
+pub mod Types
