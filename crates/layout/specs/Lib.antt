@@ -2,3 +2,4 @@
 pub mod TypesOk
 pub mod Lists
 pub mod Types
+pub mod Prims
