@@ -3,3 +3,4 @@ pub mod TypesOk
 pub mod Lists
 pub mod Types
 pub mod Prims
+pub mod Flat

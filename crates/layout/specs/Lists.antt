@@ -3,6 +3,7 @@ use mathlib.Core.Path.{_≡_, refl, ap}
 use mathlib.Core.List.{List, [], _∷_, _++_, map}
 use Prim.Native.Nat.{ℕ, zero, suc, _<_}
 use native.Mathlib.Nat.{not-suc-le-zero, le-of-suc-le-suc}
+use native.Mathlib.Omega.{arith}
 use lib.ListN.{length, getD}
 use Rattle.rules.specs.Decide.{Each, none, more}
 
@@ -53,9 +54,10 @@ pub map-each : {A B : Type 0} {P : A → Type 0} (f g : A → B) → ((x : A) �
 map-each f g h none = refl
 map-each f g h (more {x = x} p u) = cc (h x p, map-each f g h u)
 
--- what holds of each element of a list, of its default past the end, and of one more at the end
-pub snoc-cases : {A : Type 0} (Q : ℕ → A → Type 0) (xs : List A) (x d : A) → ((i : ℕ) → Q i (getD xs i d)) → Q (length xs) x → (i : ℕ) → Q i (getD (xs ++ (x ∷ [])) i d)
-snoc-cases Q [] x d h p zero = p
-snoc-cases Q [] x d h p (suc i) = h (suc i)
-snoc-cases Q (y ∷ xs) x d h p zero = h zero
-snoc-cases Q (y ∷ xs) x d h p (suc i) = snoc-cases (λ j. Q (suc j)) xs x d (λ j. h (suc j)) p i
+-- a list with one more element at its end: what each of the old ones has, the new one, and the default past it
+pub snoc-cases : {A : Type 0} (Q : ℕ → A → Type 0) (xs : List A) (x d : A) → ((i : ℕ) → i < length xs → Q i (getD xs i d)) → Q (length xs) x
+    → ((i : ℕ) → length xs < i → Q i d) → (i : ℕ) → Q i (getD (xs ++ (x ∷ [])) i d)
+snoc-cases Q [] x d h p e zero = p
+snoc-cases Q [] x d h p e (suc i) = e (suc i) (omega arith)
+snoc-cases Q (y ∷ xs) x d h p e zero = h zero (omega arith)
+snoc-cases Q (y ∷ xs) x d h p e (suc i) = snoc-cases (λ j. Q (suc j)) xs x d (λ j l. h (suc j) (omega arith)) p (λ j l. e (suc j) (omega arith)) i

@@ -244,8 +244,8 @@ module _ (I : ℕ → Type 0) (P : (k : RegionKind) → Layout k → Type 0) (c 
     unfolding layouts
     made-layouts zero h N = c .onNone variable
     made-layouts (suc n) h N =
-        snoc-cases (λ _. P variable) (layouts m n) (fieldsWith (layouts m n) (m .fields n)) noLayout (made-layouts n (omega arith))
-        (made-fields (layouts m n) (made-layouts n (omega arith)) (fields n (omega arith))) N
+        snoc-cases (λ _. P variable) (layouts m n) (fieldsWith (layouts m n) (m .fields n)) noLayout (λ i _. made-layouts n (omega arith) i)
+        (made-fields (layouts m n) (made-layouts n (omega arith)) (fields n (omega arith))) (λ _ _. c .onNone variable) N
 
     pub made-flat : {k : RegionKind} (T : Tree k) → Ints I T → P k (flat m T)
     unfolding flat

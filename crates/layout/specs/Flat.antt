@@ -1,0 +1,138 @@
+-- Laws of flat types: what `flat` gives for each form; primitives lie in order, apart and inside the size, start at 0 and cover
+-- every byte; sizes; flat types under substitution. What a law asks of the module stands in `TypesOk` and `GoodTree`.
+use mathlib.Core.Path.{_≡_, refl, sym, ap, ap₂, _∙_, subst}
+use mathlib.Core.Logic.{_⊎_, inl, inr, ⊎-elim}
+use mathlib.Core.Bool.{cond}
+use mathlib.Core.List.{List, [], _∷_, _++_, map}
+use Prim.Native.Nat.{ℕ, zero, suc, _+_, _-_, _*_, _≤_, _<_}
+use native.Mathlib.Nat.{add-zero, zero-add, add-assoc, not-suc-le-zero, le-of-suc-le-suc, mul-le-mul-left, mul-le-mul-right}
+use native.Mathlib.Decide.{decLt}
+use native.Mathlib.Omega.{arith}
+use lib.Dec.{leb}
+use lib.ListN.{length, getD}
+use Rattle.words.specs.Choose.{cond-split, split-le, lt-or-le}
+use Rattle.rules.specs.Limits.{sizeLimit}
+use Rattle.rules.specs.Decide.{Each, none, more}
+use Rattle.rules.specs.Types.{RegionKind, variable, Region, Variable, Tree, int, ptr, arr, struct, width, sub, arg, Uses, in-int, in-ptr, in-arr, in-struct, Primitive, integer, pointer}
+use Rattle.rules.specs.Module.{Module}
+use Rattle.rules.specs.Flat.{Placed, at, off, type, Has, here, there, Layout, single, none as noLayout, empty, moved, packed, beside, copiesOf, copies, placedIn, subLayout, flatWith, fieldsWith, layouts, flat, structFlat, size, count, distance}
+use Rattle.layout.specs.TypesOk.{Width, one, two, four, GoodTree, good-int, good-ptr, good-arr, good-struct, TypesOk}
+use Rattle.layout.specs.Lists.{each-append, each-all, each-at, each-map, each-weaken, map-map, map-each, snoc-cases}
+use Rattle.layout.specs.Types.{sub-sub, sub-agree, sub-width, sub-prim, arg-map, arg-uses, uses-sub}
+use Rattle.layout.specs.Prims.{has-append-left, has-append-right, has-moved, has-placed, has-some, has-each, at-has, nth, size-copiesOf, beside-sized, copies-sized, size-copies, copies-fit, subLayout-copies, length-layouts, Ints, ints-all, Made, made-flat}
+
+-- ---- by form
+
+module _ {k : RegionKind} (m : Module) where
+  pub flat-arr : (n : ℕ) (T : Tree k) → flat m (arr n T) ≡ copies n (flat m T)
+  unfolding flat flatWith
+  flat-arr n T = refl
+
+  pub flat-struct : (N : ℕ) (rs : List (Region k)) → flat m (struct N rs) ≡ subLayout (arg rs) (structFlat m N)
+  unfolding flat flatWith structFlat
+  flat-struct N rs = refl
+
+  pub flat-prim : (T : Tree k) → Primitive T → flat m T ≡ single (width T) T
+  unfolding flat flatWith
+  flat-prim (int w) p = refl
+  flat-prim (ptr T r) p = refl
+  flat-prim (arr n T) p = elim p [ ]
+  flat-prim (struct N rs) p = elim p [ ]
+
+  pub size-prim : (T : Tree k) → Primitive T → size m T ≡ width T
+  size-prim T p = ap (λ (L : Layout k). L .size) (flat-prim T p)
+
+-- the layout of struct N is made of those before it
+pub struct-known : (m : Module) (n N : ℕ) → N < n → getD (layouts m n) N noLayout ≡ fieldsWith (layouts m N) (m .fields N)
+unfolding layouts
+struct-known m zero N h = absurd (not-suc-le-zero h)
+struct-known m (suc n) N h =
+    snoc-cases (λ i L. i < suc n → L ≡ fieldsWith (layouts m i) (m .fields i)) (layouts m n) (fieldsWith (layouts m n) (m .fields n)) noLayout
+    (λ i l _. struct-known m n i (omega (arith, length-layouts m n))) (λ _. rw (length-layouts m n) refl) (λ i l g. absurd (omega (arith, length-layouts m n))) N h
+
+pub structFlat-fields : (m : Module) (N : ℕ) → N < m .structs → structFlat m N ≡ fieldsWith (layouts m N) (m .fields N)
+unfolding structFlat
+structFlat-fields m N h = struct-known m (m .structs) N h
+
+-- ---- order: each primitive starts where the one before it has ended, or later, and the last ends inside
+
+-- in order from a up to b
+abbrev pub Ordered : {k : RegionKind} → ℕ → List (Placed k) → ℕ → Type 0
+Ordered a [] b = a ≤ b
+Ordered a (at d T ∷ l) b = (a ≤ d) × Primitive T × Ordered (d + width T) l b
+
+module _ {k : RegionKind} where
+  ordered-from : (a c : ℕ) (l : List (Placed k)) (b : ℕ) → c ≤ a → Ordered a l b → Ordered c l b
+  ordered-from a c [] b h o = omega (arith, o)
+  ordered-from a c (at d T ∷ l) b h o = (omega (arith, o .0), o .1, o .2)
+
+  ordered-append : (a : ℕ) (l : List (Placed k)) (b : ℕ) (n : List (Placed k)) (c : ℕ) → Ordered a l b → Ordered b n c → Ordered a (l ++ n) c
+  ordered-append a [] b n c o p = ordered-from b a n c o p
+  ordered-append a (at d T ∷ l) b n c o p = (o .0, o .1, ordered-append (d + width T) l b n c (o .2) p)
+
+  ordered-moved : (n a : ℕ) (l : List (Placed k)) (b : ℕ) → Ordered a l b → Ordered (n + a) (map (moved n) l) (n + b)
+  ordered-moved n a [] b o = omega (arith, o)
+  ordered-moved n a (at d T ∷ l) b o =
+      (omega (arith, o .0), o .1, ordered-from (n + (d + width T)) (n + d + width T) (map (moved n) l) (n + b) (omega arith) (ordered-moved n (d + width T) l b (o .2)))
+
+ordered-placed : {j k : RegionKind} (σ : Region j → Region k) (a : ℕ) (l : List (Placed j)) (b : ℕ) → Ordered a l b → Ordered a (map (placedIn σ) l) b
+ordered-placed σ a [] b o = o
+ordered-placed σ a (at d T ∷ l) b o =
+    (o .0, sub-prim σ T (o .1), ordered-from (d + width T) (d + width (sub σ T)) (map (placedIn σ) l) b (omega (arith, sub-width σ T)) (ordered-placed σ (d + width T) l b (o .2)))
+
+ordered-made : Made (λ _. Unit {0}) (λ k L. Ordered 0 (L .prims) (L .size))
+unfolding subLayout
+ordered-made = record {
+  onInt = λ k w i. (omega arith, integer, omega arith);
+  onPtr = λ k T r. (omega arith, pointer, omega arith);
+  onNone = λ k. omega arith;
+  onEmpty = λ k. omega arith;
+  onPacked = λ k L M p q. ordered-append 0 (L .prims) (L .size) (map (moved (L .size)) (M .prims)) (L .size + M .size) p (ordered-from (L .size + 0) (L .size) (map (moved (L .size)) (M .prims)) (L .size + M .size) (omega arith) (ordered-moved (L .size) 0 (M .prims) (M .size) q));
+  onSub = λ j k σ L p. ordered-placed σ 0 (L .prims) (L .size) p;
+}
+
+-- a fact that asks nothing of integers holds of every flat type
+all-flat : (P : (k : RegionKind) → Layout k → Type 0) → Made (λ _. Unit {0}) P → (m : Module) {k : RegionKind} (T : Tree k) → P k (flat m T)
+all-flat P c m T = made-flat (λ _. Unit {0}) P c m (λ N _. each-all (ints-all (λ _. Unit {0}) (λ _. tt)) (m .fields N)) T (ints-all (λ _. Unit {0}) (λ _. tt) T)
+
+pub ordered-flat : {k : RegionKind} (m : Module) (T : Tree k) → Ordered 0 (flat m T .prims) (size m T)
+ordered-flat m T = all-flat (λ k L. Ordered 0 (L .prims) (L .size)) ordered-made m T
+
+module _ {k : RegionKind} where
+  ordered-le : (a : ℕ) (l : List (Placed k)) (b : ℕ) → Ordered a l b → a ≤ b
+  ordered-le a [] b o = o
+  ordered-le a (at d T ∷ l) b o = let r = ordered-le (d + width T) l b (o .2) in omega (arith, o .0, r)
+
+  -- a member lies inside
+  pub has-inside : (a : ℕ) (l : List (Placed k)) (b : ℕ) {d : ℕ} {T : Tree k} → Ordered a l b → Has l d T → (a ≤ d) × (d + width T ≤ b)
+  has-inside a (at d T ∷ l) b o here = (o .0, ordered-le (d + width T) l b (o .2))
+  has-inside a (at d T ∷ l) b o (there h) = let r = has-inside (d + width T) l b (o .2) h in (omega (arith, r .0, o .0), r .1)
+
+  pub has-prim : (a : ℕ) (l : List (Placed k)) (b : ℕ) {d : ℕ} {T : Tree k} → Ordered a l b → Has l d T → Primitive T
+  has-prim a (at d T ∷ l) b o here = o .1
+  has-prim a (at d T ∷ l) b o (there h) = has-prim (d + width T) l b (o .2) h
+
+-- two members are one, or lie apart
+pub record Apart {k : RegionKind} (d : ℕ) (T : Tree k) (e : ℕ) (U : Tree k) : Type 0 where
+  pub gap : (d + width T ≤ e) ⊎ (e + width U ≤ d)
+
+pub record SamePlace {k : RegionKind} (d : ℕ) (T : Tree k) (e : ℕ) (U : Tree k) : Type 0 where
+  pub place : d ≡ e
+  pub tree : T ≡ U
+
+pub has-apart : {k : RegionKind} (a : ℕ) (l : List (Placed k)) (b : ℕ) {d e : ℕ} {T U : Tree k} → Ordered a l b → Has l d T → Has l e U → SamePlace d T e U ⊎ Apart d T e U
+has-apart a (at d T ∷ l) b o here here = inl (record { place = refl; tree = refl })
+has-apart a (at d T ∷ l) b o here (there k) = inr (record { gap = inl (has-inside (d + width T) l b (o .2) k .0) })
+has-apart a (at d T ∷ l) b o (there h) here = inr (record { gap = inr (has-inside (d + width T) l b (o .2) h .0) })
+has-apart a (at d T ∷ l) b o (there h) (there k) = has-apart (d + width T) l b (o .2) h k
+
+-- the same of a flat type
+module _ {k : RegionKind} (m : Module) (T : Tree k) where
+  pub flat-inside : {d : ℕ} {P : Tree k} → Has (flat m T .prims) d P → d + width P ≤ size m T
+  flat-inside h = has-inside 0 (flat m T .prims) (size m T) (ordered-flat m T) h .1
+
+  pub flat-has-prim : {d : ℕ} {P : Tree k} → Has (flat m T .prims) d P → Primitive P
+  flat-has-prim h = has-prim 0 (flat m T .prims) (size m T) (ordered-flat m T) h
+
+  pub flat-apart : {d e : ℕ} {P Q : Tree k} → Has (flat m T .prims) d P → Has (flat m T .prims) e Q → SamePlace d P e Q ⊎ Apart d P e Q
+  flat-apart h g = has-apart 0 (flat m T .prims) (size m T) (ordered-flat m T) h g
