@@ -136,3 +136,135 @@ module _ {k : RegionKind} (m : Module) (T : Tree k) where
 
   pub flat-apart : {d e : ℕ} {P Q : Tree k} → Has (flat m T .prims) d P → Has (flat m T .prims) e Q → SamePlace d P e Q ⊎ Apart d P e Q
   flat-apart h g = has-apart 0 (flat m T .prims) (size m T) (ordered-flat m T) h g
+
+-- ---- what has a size starts with its first primitive, and primitives cover it
+
+abbrev Starts : {k : RegionKind} → List (Placed k) → ℕ → Type 0
+Starts [] s = s ≡ 0
+Starts (at d T ∷ l) s = d ≡ 0
+
+starts-packed : {k : RegionKind} (l n : List (Placed k)) (s t : ℕ) → Starts l s → Starts n t → Starts (l ++ map (moved s) n) (s + t)
+starts-packed [] [] s t p q = omega (arith, p, q)
+starts-packed [] (at d T ∷ n) s t p q = omega (arith, p, q)
+starts-packed (at d T ∷ l) n s t p q = p
+
+starts-placed : {j k : RegionKind} (σ : Region j → Region k) (l : List (Placed j)) (s : ℕ) → Starts l s → Starts (map (placedIn σ) l) s
+starts-placed σ [] s p = p
+starts-placed σ (at d T ∷ l) s p = p
+
+starts-made : Made (λ _. Unit {0}) (λ k L. L .size ≤ sizeLimit → Starts (L .prims) (L .size))
+unfolding subLayout
+starts-made = record {
+  onInt = λ k w i h. refl;
+  onPtr = λ k T r h. refl;
+  onNone = λ k h. absurd (omega arith);
+  onEmpty = λ k h. refl;
+  onPacked = λ k L M p q h. starts-packed (L .prims) (M .prims) (L .size) (M .size) (p (omega arith)) (q (omega arith));
+  onSub = λ j k σ L p h. starts-placed σ (L .prims) (L .size) (p h);
+}
+
+starts-first : {k : RegionKind} (l : List (Placed k)) (s : ℕ) → Starts l s → off (getD l 0 (at 0 (int 0))) ≡ 0
+starts-first [] s p = refl
+starts-first (at d T ∷ l) s p = p
+
+-- the first primitive of what has a size is at distance 0
+pub distance-zero : {k : RegionKind} (m : Module) (T : Tree k) → size m T ≤ sizeLimit → distance (flat m T) 0 ≡ 0
+distance-zero m T h =
+    starts-first (flat m T .prims) (size m T) (all-flat (λ k L. L .size ≤ sizeLimit → Starts (L .prims) (L .size)) starts-made m T h)
+
+-- byte i lies in a primitive of the list
+pub record Covered {k : RegionKind} (l : List (Placed k)) (i : ℕ) : Type 0 where
+  pub distance : ℕ
+  pub type : Tree k
+  pub has : Has l distance type
+  pub low : distance ≤ i
+  pub high : i < distance + width type
+
+covered-packed : (k : RegionKind) (L M : Layout k) → ((i : ℕ) → i < L .size → Covered (L .prims) i) → ((i : ℕ) → i < M .size → Covered (M .prims) i)
+    → (i : ℕ) → i < L .size + M .size → Covered (packed L M .prims) i
+covered-packed k L M p q i h = go (lt-or-le i (L .size))
+  where
+    go : (i < L .size) ⊎ (L .size ≤ i) → Covered (L .prims ++ map (moved (L .size)) (M .prims)) i
+    go (inl l) = let c = p i l in record { distance = c .distance; type = c .type; has = has-append-left (map (moved (L .size)) (M .prims)) (c .has); low = c .low; high = c .high }
+    go (inr l) =
+        let c = q (i - L .size) (omega arith) in
+        record { distance = L .size + c .distance; type = c .type; has = has-append-right (L .prims) (has-moved (L .size) (c .has)); low = omega (arith, c .low); high = omega (arith, c .high) }
+
+filled-made : Made (λ _. Unit {0}) (λ k L. L .size ≤ sizeLimit → (i : ℕ) → i < L .size → Covered (L .prims) i)
+unfolding subLayout
+filled-made = record {
+  onInt = λ k w _ h i l. record { distance = 0; type = int w; has = here; low = omega arith; high = omega arith };
+  onPtr = λ k T r h i l. record { distance = 0; type = ptr T r; has = here; low = omega arith; high = omega arith };
+  onNone = λ k h i l. absurd (omega arith);
+  onEmpty = λ k h i l. absurd (omega arith);
+  onPacked = λ k L M p q h. covered-packed k L M (p (omega arith)) (q (omega arith));
+  onSub = λ j k σ L p h i l. let c = p h i l in record { distance = c .distance; type = sub σ (c .type); has = has-placed σ (c .has); low = c .low; high = omega (arith, c .high, sub-width σ (c .type)) };
+}
+
+-- every byte of what has a size lies in one of its primitives
+pub filled : {k : RegionKind} (m : Module) (T : Tree k) → size m T ≤ sizeLimit → (i : ℕ) → i < size m T → Covered (flat m T .prims) i
+filled m T h = all-flat (λ k L. L .size ≤ sizeLimit → (i : ℕ) → i < L .size → Covered (L .prims) i) filled-made m T h
+
+-- ---- widths: every primitive of a good type is an integer of 1, 2 or 4 bytes, or a pointer
+
+pub data Basic {k : RegionKind} : Tree k → Type 0 where
+  basic-int : {w : ℕ} → Width w → Basic (int w)
+  basic-ptr : {T : Tree k} {r : Region k} → Basic (ptr T r)
+
+pub basic-prim : {k : RegionKind} {T : Tree k} → Basic T → Primitive T
+basic-prim (basic-int w) = integer
+basic-prim basic-ptr = pointer
+
+pub basic-width : {k : RegionKind} {T : Tree k} → Basic T → Width (width T)
+basic-width (basic-int w) = w
+basic-width basic-ptr = four
+
+pub width-pos : (w : ℕ) → Width w → 0 < w
+width-pos w one = omega arith
+width-pos w two = omega arith
+width-pos w four = omega arith
+
+pub width-le : (w : ℕ) → Width w → w ≤ 4
+width-le w one = omega arith
+width-le w two = omega arith
+width-le w four = omega arith
+
+pub basic-wide : {k : RegionKind} {T : Tree k} → Basic T → 0 < width T
+basic-wide {T = T} b = width-pos (width T) (basic-width b)
+
+pub basic-sub : {j k : RegionKind} (σ : Region j → Region k) {T : Tree j} → Basic T → Basic (sub σ T)
+unfolding sub
+basic-sub σ (basic-int w) = basic-int w
+basic-sub σ basic-ptr = basic-ptr
+
+abbrev pub AllBasic : {k : RegionKind} → List (Placed k) → Type 0
+AllBasic l = Each (λ p. Basic (type p)) l
+
+basic-moved : {k : RegionKind} (n : ℕ) (p : Placed k) → Basic (type p) → Basic (type (moved n p))
+basic-moved n (at d T) b = b
+
+basic-placed : {j k : RegionKind} (σ : Region j → Region k) (p : Placed j) → Basic (type p) → Basic (type (placedIn σ p))
+basic-placed σ (at d T) b = basic-sub σ b
+
+basic-made : Made Width (λ k L. AllBasic (L .prims))
+unfolding subLayout
+basic-made = record {
+  onInt = λ k w i. more (basic-int i) none;
+  onPtr = λ k T r. more basic-ptr none;
+  onNone = λ k. none;
+  onEmpty = λ k. none;
+  onPacked = λ k L M p q. each-append p (each-map (moved (L .size)) (basic-moved (L .size)) q);
+  onSub = λ j k σ L p. each-map (placedIn σ) (basic-placed σ) p;
+}
+
+pub good-ints : {k : RegionKind} {m : Module} {T : Tree k} → GoodTree m T → Ints Width T
+good-ints (good-int w) = w
+good-ints (good-ptr g) = tt
+good-ints (good-arr h s g) = good-ints g
+good-ints (good-struct s e) = tt
+
+pub flat-basic : {k : RegionKind} (m : Module) → TypesOk m → (T : Tree k) → GoodTree m T → AllBasic (flat m T .prims)
+flat-basic m ok T g = made-flat Width (λ k L. AllBasic (L .prims)) basic-made m (λ N h. each-weaken (λ U u. good-ints u) (ok .fields N h)) T (good-ints g)
+
+pub has-basic : {k : RegionKind} (m : Module) → TypesOk m → (T : Tree k) → GoodTree m T → {d : ℕ} {P : Tree k} → Has (flat m T .prims) d P → Basic P
+has-basic m ok T g h = has-each Basic (flat-basic m ok T g) h
