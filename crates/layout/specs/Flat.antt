@@ -5,11 +5,11 @@ use mathlib.Core.Logic.{_⊎_, inl, inr, ⊎-elim}
 use mathlib.Core.Bool.{cond}
 use mathlib.Core.List.{List, [], _∷_, _++_, map}
 use Prim.Native.Nat.{ℕ, zero, suc, _+_, _-_, _*_, _≤_, _<_}
-use native.Mathlib.Nat.{add-zero, zero-add, add-assoc, not-suc-le-zero, le-of-suc-le-suc, mul-le-mul-left, mul-le-mul-right}
+use native.Mathlib.Nat.{add-zero, zero-add, add-assoc, not-suc-le-zero, le-of-suc-le-suc, mul-le-mul-left, mul-le-mul-right, mul-pos}
 use native.Mathlib.Decide.{decLt}
 use native.Mathlib.Omega.{arith}
 use lib.Dec.{leb}
-use lib.ListN.{length, getD}
+use lib.ListN.{length, getD, length-map}
 use Rattle.words.specs.Choose.{cond-split, split-le, lt-or-le}
 use Rattle.rules.specs.Limits.{sizeLimit}
 use Rattle.rules.specs.Decide.{Each, none, more}
@@ -268,3 +268,147 @@ flat-basic m ok T g = made-flat Width (λ k L. AllBasic (L .prims)) basic-made m
 
 pub has-basic : {k : RegionKind} (m : Module) → TypesOk m → (T : Tree k) → GoodTree m T → {d : ℕ} {P : Tree k} → Has (flat m T .prims) d P → Basic P
 has-basic m ok T g h = has-each Basic (flat-basic m ok T g) h
+
+-- ---- sizes
+
+pub good-sized : {k : RegionKind} (m : Module) (T : Tree k) → GoodTree m T → size m T ≤ sizeLimit
+unfolding flat flatWith
+good-sized m (int w) (good-int h) = let l = width-le w h in omega arith
+good-sized m (ptr T r) g = omega arith
+good-sized m (arr n T) (good-arr h s g) = s
+good-sized m (struct N rs) (good-struct s e) = s
+
+-- an element of what has a size has one
+pub element-sized : {k : RegionKind} (m : Module) (n : ℕ) (T : Tree k) → size m (arr n T) ≤ sizeLimit → n * size m T ≤ sizeLimit
+element-sized {k} m n T h = copies-fit n (flat m T) (subst (λ (L : Layout k). L .size ≤ sizeLimit) (flat-arr m n T) h)
+
+pub size-arr : {k : RegionKind} (m : Module) (n : ℕ) (T : Tree k) → size m (arr n T) ≤ sizeLimit → size m (arr n T) ≡ n * size m T
+size-arr {k} m n T h =
+    ap (λ (L : Layout k). L .size) (flat-arr m n T ∙ copies-sized n (flat m T) (element-sized m n T h)) ∙ size-copiesOf n (flat m T)
+
+module _ {j k : RegionKind} (σ : Region j → Region k) where
+  with-size-sub : (ls : List (Layout variable)) (T : Tree j) → flatWith ls (sub σ T) .size ≡ flatWith ls T .size
+  unfolding flatWith sub subLayout
+  with-size-sub ls (int w) = refl
+  with-size-sub ls (ptr T r) = refl
+  with-size-sub ls (arr n T) =
+      size-copies n (flatWith ls (sub σ T)) ∙ ap (λ (x : ℕ). cond (leb (n * x) sizeLimit) (n * x) (suc sizeLimit)) (with-size-sub ls T)
+      ∙ sym (size-copies n (flatWith ls T))
+  with-size-sub ls (struct N rs) = refl
+
+  -- sizes do not depend on regions
+  pub size-sub : (m : Module) (T : Tree j) → size m (sub σ T) ≡ size m T
+  unfolding flat
+  size-sub m T = with-size-sub (layouts m (m .structs)) T
+
+  -- a good tree is good under every substitution
+  pub good-sub : (m : Module) (T : Tree j) → GoodTree m T → GoodTree m (sub σ T)
+  unfolding sub
+  good-sub m (int w) (good-int h) = good-int h
+  good-sub m (ptr T r) (good-ptr g) = good-ptr (good-sub m T g)
+  good-sub m (arr n T) (good-arr h s g) = good-arr h (subst (λ (x : ℕ). x ≤ sizeLimit) (sym (size-sub m (arr n T))) s) (good-sub m T g)
+  good-sub m (struct N rs) (good-struct s e) = good-struct (subst (λ (x : ℕ). x ≤ sizeLimit) (sym (size-sub m (struct N rs))) s) (length-map rs σ ∙ e)
+
+module _ (m : Module) where
+  module _ (ls : List (Layout variable)) (known : (N : ℕ) → 0 < getD ls N noLayout .size) where
+    pos-with : {k : RegionKind} (T : Tree k) → GoodTree m T → 0 < flatWith ls T .size
+    unfolding flatWith subLayout
+    pos-with (int w) (good-int h) = width-pos w h
+    pos-with (ptr T r) g = omega arith
+    pos-with (arr n T) (good-arr h s g) =
+        let p = pos-with T g in
+        rw (size-copies n (flatWith ls T)) (split-le (λ (x : ℕ). 0 < x) (n * flatWith ls T .size) sizeLimit (n * flatWith ls T .size) (suc sizeLimit) (λ _. mul-pos h p) (λ _. omega arith))
+    pos-with (struct N rs) g = known N
+
+    pos-fields : {Ts : List (Tree variable)} → 0 < length Ts → Each (GoodTree m) Ts → 0 < fieldsWith ls Ts .size
+    unfolding fieldsWith beside
+    pos-fields h none = absurd (not-suc-le-zero h)
+    pos-fields h (more {x = T} {xs = Ts} g u) =
+        let p = pos-with T g in
+        cond-split (λ (L : Layout variable). 0 < L .size) (leb (flatWith ls T .size + fieldsWith ls Ts .size) sizeLimit) (packed (flatWith ls T) (fieldsWith ls Ts)) noLayout
+        (λ _. omega arith) (λ _. omega arith)
+
+  module _ (ok : TypesOk m) where
+    pos-layouts : (n : ℕ) → n ≤ m .structs → (N : ℕ) → 0 < getD (layouts m n) N noLayout .size
+    unfolding layouts
+    pos-layouts zero h N = omega arith
+    pos-layouts (suc n) h N =
+        snoc-cases (λ _ L. 0 < L .size) (layouts m n) (fieldsWith (layouts m n) (m .fields n)) noLayout (λ i _. pos-layouts n (omega arith) i)
+        (pos-fields (layouts m n) (pos-layouts n (omega arith)) (ok .some n (omega arith)) (ok .fields n (omega arith))) (λ _ _. omega arith) N
+
+    pub size-pos : {k : RegionKind} (T : Tree k) → GoodTree m T → 0 < size m T
+    unfolding flat
+    size-pos T g = pos-with (layouts m (m .structs)) (pos-layouts (m .structs) (omega arith)) T g
+
+    -- a good type has a primitive
+    pub flat-some : {k : RegionKind} (T : Tree k) → GoodTree m T → 0 < count (flat m T)
+    flat-some T g = has-some (filled m T (good-sized m T g) 0 (size-pos T g) .has)
+
+-- ---- regions: the primitives of a tree use the regions of the tree
+
+abbrev pub PrimsUse : ℕ → List (Placed variable) → Type 0
+PrimsUse n l = Each (λ p. Uses n (type p)) l
+
+uses-moved : (n d : ℕ) (p : Placed variable) → Uses n (type p) → Uses n (type (moved d p))
+uses-moved n d (at e T) u = u
+
+uses-placed : (c n : ℕ) (σ : Variable → Variable) → ((r : Variable) → r .number < c → σ r .number < n) → (p : Placed variable) → Uses c (type p) → Uses n (type (placedIn σ p))
+uses-placed c n σ f (at e T) u = uses-sub c n σ f T u
+
+uses-copiesOf : (n c : ℕ) (L : Layout variable) → PrimsUse n (L .prims) → PrimsUse n (copiesOf c L .prims)
+unfolding copiesOf
+uses-copiesOf n zero L u = none
+uses-copiesOf n (suc c) L u = each-append u (each-map (moved (L .size)) (uses-moved n (L .size)) (uses-copiesOf n c L u))
+
+module _ (m : Module) where
+  module _ (ls : List (Layout variable)) (known : (N : ℕ) → PrimsUse (m .arity N) (getD ls N noLayout .prims)) where
+    uses-with : (n : ℕ) (T : Tree variable) → GoodTree m T → Uses n T → PrimsUse n (flatWith ls T .prims)
+    unfolding flatWith subLayout copies
+    uses-with n (int w) g u = more u none
+    uses-with n (ptr T r) g u = more u none
+    uses-with n (arr c T) (good-arr h s g) (in-arr u) =
+        let v = uses-with n T g u in
+        cond-split (λ (L : Layout variable). PrimsUse n (L .prims)) (leb (c * flatWith ls T .size) sizeLimit) (copiesOf c (flatWith ls T)) noLayout
+        (λ _. uses-copiesOf n c (flatWith ls T) v) (λ _. none)
+    uses-with n (struct N rs) (good-struct s e) (in-struct u) =
+        each-map (placedIn (arg rs)) (uses-placed (m .arity N) n (arg rs) (λ r h. arg-uses n rs r u (rw e h))) (known N)
+
+    uses-fields : (n : ℕ) {Ts : List (Tree variable)} → Each (GoodTree m) Ts → Each (Uses n) Ts → PrimsUse n (fieldsWith ls Ts .prims)
+    unfolding fieldsWith beside
+    uses-fields n none v = none
+    uses-fields n (more {x = T} {xs = Ts} g u) (more h v) =
+        cond-split (λ (L : Layout variable). PrimsUse n (L .prims)) (leb (flatWith ls T .size + fieldsWith ls Ts .size) sizeLimit) (packed (flatWith ls T) (fieldsWith ls Ts)) noLayout
+        (λ _. each-append (uses-with n T g h) (each-map (moved (flatWith ls T .size)) (uses-moved n (flatWith ls T .size)) (uses-fields n u v))) (λ _. none)
+
+    -- the flat type of a substituted tree: the same distances, the primitives substituted
+    with-sub : {j k : RegionKind} (σ : Region j → Region k) (T : Tree j) → GoodTree m T → flatWith ls (sub σ T) ≡ subLayout σ (flatWith ls T)
+    unfolding flatWith sub subLayout
+    with-sub σ (int w) g = refl
+    with-sub σ (ptr T r) g = refl
+    with-sub σ (arr n T) (good-arr h s g) = ap (copies n) (with-sub σ T g) ∙ sym (subLayout-copies σ n (flatWith ls T))
+    with-sub {j} {k} σ (struct N rs) (good-struct s e) =
+        ap (λ (l : List (Placed k)). record { size = getD ls N noLayout .size; prims = l })
+        (map-each (placedIn (arg (map σ rs))) (λ p. placedIn σ (placedIn (arg rs) p)) through (known N) ∙ sym (map-map (placedIn σ) (placedIn (arg rs)) (getD ls N noLayout .prims)))
+      where
+        through : (p : Placed variable) → Uses (m .arity N) (type p) → placedIn (arg (map σ rs)) p ≡ placedIn σ (placedIn (arg rs) p)
+        through (at d T) u =
+            ap {B = Placed k} (at d) (sub-agree (m .arity N) (arg (map σ rs)) (λ v. σ (arg rs v)) T u (λ v h. arg-map σ rs v (rw e h)) ∙ sym (sub-sub σ (arg rs) T))
+
+  module _ (ok : TypesOk m) where
+    uses-layouts : (n : ℕ) → n ≤ m .structs → (N : ℕ) → PrimsUse (m .arity N) (getD (layouts m n) N noLayout .prims)
+    unfolding layouts
+    uses-layouts zero h N = none
+    uses-layouts (suc n) h N =
+        snoc-cases (λ i L. PrimsUse (m .arity i) (L .prims)) (layouts m n) (fieldsWith (layouts m n) (m .fields n)) noLayout (λ i _. uses-layouts n (omega arith) i)
+        (rw (length-layouts m n) (uses-fields (layouts m n) (uses-layouts n (omega arith)) (m .arity n) (ok .fields n (omega arith)) (ok .uses n (omega arith)))) (λ _ _. none) N
+
+    pub flat-uses : (n : ℕ) (T : Tree variable) → GoodTree m T → Uses n T → PrimsUse n (flat m T .prims)
+    unfolding flat
+    flat-uses n T g u = uses-with (layouts m (m .structs)) (uses-layouts (m .structs) (omega arith)) n T g u
+
+    pub has-uses : (n : ℕ) (T : Tree variable) → GoodTree m T → Uses n T → {d : ℕ} {P : Tree variable} → Has (flat m T .prims) d P → Uses n P
+    has-uses n T g u h = has-each (Uses n) (flat-uses n T g u) h
+
+    pub flat-sub : {j k : RegionKind} (σ : Region j → Region k) (T : Tree j) → GoodTree m T → flat m (sub σ T) ≡ subLayout σ (flat m T)
+    unfolding flat
+    flat-sub σ T g = with-sub (layouts m (m .structs)) (uses-layouts (m .structs) (omega arith)) σ T g
