@@ -4,3 +4,4 @@ pub mod Lists
 pub mod Types
 pub mod Prims
 pub mod Flat
+pub mod Runs
