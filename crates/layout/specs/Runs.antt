@@ -12,6 +12,7 @@ use lib.Dec.{eqb}
 use lib.ListN.{length, getD, take, drop, length-take, length-drop, length-map, List·getD-append, List·getD-map}
 use lib.Seq.{getD-take, getD-drop, getD-append-add, ext-getD, take-length}
 use borrow.Author.Tests.{eqb-true, eq-eqb, ne-eqb, not-false}
+use Rattle.words.specs.First.{first}
 use Rattle.words.specs.FirstLaws.{first-le, first-is, first-fails, first-agree}
 use Rattle.words.specs.Choose.{lt-or-le}
 use Rattle.rules.specs.Limits.{sizeLimit}
@@ -147,3 +148,161 @@ module _ {k : RegionKind} where
       let e : distance L (p + q) ≡ o + distance M q =
       run-distance L p M r q (omega (arith, run-room M q N s, s .some)) ∙ ap (λ (x : ℕ). x + distance M q) (runAt-distance L o M r) in
       subst (λ (x : ℕ). RunAt L x N) e (run-at L up (p + q) N (run-run-from L M N p q r s))
+
+  -- ---- elements of an array
+
+  nth-left : (L M : Layout k) (i : ℕ) → i < count L → nth (packed L M) i ≡ nth L i
+  nth-left L M i h = List·getD-append (L .prims) (map (moved (L .size)) (M .prims)) (at 0 (int 0)) i h
+
+  nth-right : (L M : Layout k) (i : ℕ) → i < count M → nth (packed L M) (count L + i) ≡ moved (L .size) (nth M i)
+  nth-right L M i h = getD-append-add (L .prims) (map (moved (L .size)) (M .prims)) i (at 0 (int 0)) ∙ getD-map (moved (L .size)) (M .prims) i (at 0 (int 0)) (at 0 (int 0)) h
+
+  -- copy i of primitive j
+  pub nth-copies : (n : ℕ) (L : Layout k) (i j : ℕ) → i < n → j < count L → nth (copiesOf n L) (i * count L + j) ≡ moved (i * L .size) (nth L j)
+  unfolding copiesOf
+  nth-copies zero L i j h l = absurd (not-suc-le-zero h)
+  nth-copies (suc n) L zero j h l =
+      let e : 0 * count L + j ≡ j = omega arith in
+      let f : 0 * L .size ≡ 0 = omega arith in
+      ap (nth (packed L (copiesOf n L))) e ∙ nth-left L (copiesOf n L) j l ∙ sym (moved-zero (nth L j)) ∙ ap (λ (x : ℕ). moved x (nth L j)) (sym f)
+  nth-copies (suc n) L (suc i) j h l =
+      let e : suc i * count L + j ≡ count L + (i * count L + j) = omega arith in
+      let f : L .size + i * L .size ≡ suc i * L .size = omega arith in
+      let g : suc i * count L ≤ n * count L = mul-le-mul-right (count L) (le-of-suc-le-suc h) in
+      let c = count-copiesOf n L in
+      ap (nth (packed L (copiesOf n L))) e ∙ nth-right L (copiesOf n L) (i * count L + j) (omega arith) ∙ ap (moved (L .size)) (nth-copies n L i j (le-of-suc-le-suc h) l)
+      ∙ moved-moved (L .size) (i * L .size) (nth L j) ∙ ap (λ (x : ℕ). moved x (nth L j)) f
+
+  module _ (n : ℕ) (L : Layout k) (i : ℕ) (h : i < n) (some : 0 < count L) (zero-first : distance L 0 ≡ 0) where
+    distance-copies : distance (copiesOf n L) (i * count L) ≡ i * L .size
+    distance-copies =
+        let e : i * count L + 0 ≡ i * count L = omega arith in
+        ap (distance (copiesOf n L)) (sym e) ∙ ap off (nth-copies n L i 0 h some) ∙ moved-off (i * L .size) (nth L 0) ∙ ap (λ (x : ℕ). i * L .size + x) zero-first ∙ add-zero (i * L .size)
+
+    run-copies : Run (copiesOf n L) (i * count L) L
+    run-copies =
+        let g : suc i * count L ≤ n * count L = mul-le-mul-right (count L) h in
+        matches-run (copiesOf n L) (i * count L) L
+        (record {
+          some = some;
+          room = let c = count-copiesOf n L in omega arith;
+          each = λ j l. nth-copies n L i j h l ∙ ap (λ (x : ℕ). moved x (nth L j)) (sym distance-copies);
+        })
+
+  module _ (m : Module) (n : ℕ) (T : Tree k) (i : ℕ) (h : i < n) (sized : size m (arr n T) ≤ sizeLimit) where
+    array-is : flat m (arr n T) ≡ copiesOf n (flat m T)
+    array-is = flat-arr m n T ∙ copies-sized n (flat m T) (element-sized m n T sized)
+
+    first-at-zero : distance (flat m T) 0 ≡ 0
+    first-at-zero =
+        let one : 1 * size m T ≤ n * size m T = mul-le-mul-right {m = 1} {n = n} (size m T) (omega arith) in
+        let all = element-sized m n T sized in
+        distance-zero m T (omega arith)
+
+    -- element i of an array stands at position i * count and distance i * size
+    pub has-element : 0 < count (flat m T) → Run (flat m (arr n T)) (i * count (flat m T)) (flat m T)
+    has-element some = subst (λ (L : Layout k). Run L (i * count (flat m T)) (flat m T)) (sym array-is) (run-copies n (flat m T) i h some first-at-zero)
+
+    pub distance-element : 0 < count (flat m T) → distance (flat m (arr n T)) (i * count (flat m T)) ≡ i * size m T
+    distance-element some = ap (λ (L : Layout k). distance L (i * count (flat m T))) array-is ∙ distance-copies n (flat m T) i h some first-at-zero
+
+  -- ---- equal primitives
+
+  pub same-sym : (L M : Layout k) → Same L M → Same M L
+  same-sym L M s = record { some = subst (λ (l : List (Placed k)). 0 < length l) (s .equal) (s .some); equal = sym (s .equal) }
+
+  map-moved-zero : (l : List (Placed k)) → map (moved 0) l ≡ l
+  map-moved-zero [] = refl
+  map-moved-zero (p ∷ l) = cc (moved-zero p, map-moved-zero l)
+
+  -- what has the same primitives stands at its start
+  pub same-run : (L M : Layout k) → distance L 0 ≡ 0 → Same L M → RunAt L 0 M
+  same-run L M e s =
+      subst (λ (x : ℕ). Run L x M) (sym (position-zero L (s .some) e))
+      (record {
+        some = same-sym L M s .some;
+        equal = ap (take (count M)) (s .equal) ∙ take-length (M .prims) ∙ sym (map-moved-zero (M .prims)) ∙ ap (λ (x : ℕ). map (moved x) (M .prims)) (sym e);
+      })
+
+  -- ---- one primitive
+
+  -- a primitive is a run where it stands
+  pub prim-run : (m : Module) (L : Layout k) → Ascending L → (d : ℕ) (P : Tree k) → Primitive P → Has (L .prims) d P → RunAt L d (flat m P)
+  prim-run m L up d P p h =
+      let a = has-at h in
+      let q : ℕ = a .position in
+      let at-d : distance L q ≡ d = ap off (a .is) in
+      let one : Run L q (single (width P) P) =
+      matches-run L q (single (width P) P)
+      (record {
+        some = omega arith;
+        room = omega (arith, a .below);
+        each = λ i l.
+            let z : i ≡ 0 = omega arith in
+            rw z (ap (nth L) (add-zero q) ∙ a .is ∙ ap {B = Placed k} (λ x. at x P) (sym at-d ∙ sym (add-zero (distance L q))));
+      }) in
+      subst (λ (x : ℕ). RunAt L x (flat m P)) at-d (run-at L up q (flat m P) (subst (λ (M : Layout k). Run L q M) (sym (flat-prim m P p)) one))
+
+  -- a run of a primitive is that primitive
+  pub run-prim : (m : Module) (L : Layout k) (o : ℕ) (P : Tree k) → Primitive P → RunAt L o (flat m P) → Has (L .prims) o P
+  run-prim m L o P p r =
+      subst (λ (x : ℕ). Has (L .prims) x P) (add-zero o)
+      (run-has L o (flat m P) r (subst (λ (M : Layout k). Has (M .prims) 0 P) (sym (flat-prim m P p)) here))
+
+  -- ---- a run lies inside
+
+  pub run-size : (m : Module) (T U : Tree k) (o : ℕ) → size m U ≤ sizeLimit → RunAt (flat m T) o (flat m U) → o + size m U ≤ size m T
+  run-size m T U o s r = go (lt-or-le 0 (size m U))
+    where
+      go : (0 < size m U) ⊎ (size m U ≤ 0) → o + size m U ≤ size m T
+      go (inl h) =
+          let c = filled m U s (size m U - 1) (omega arith) in
+          omega (arith, c .high, flat-inside m T (run-has (flat m T) o (flat m U) r (c .has)))
+      go (inr h) = omega (arith, flat-inside m T (run-has (flat m T) o (flat m U) r (at-has (flat m U .prims) 0 (at 0 (int 0)) (r .some))))
+
+-- ---- substitution
+
+module _ {j k : RegionKind} (σ : Region j → Region k) where
+  pub nth-sub : (L : Layout j) (i : ℕ) → nth (subLayout σ L) i ≡ placedIn σ (nth L i)
+  unfolding subLayout sub
+  nth-sub L i = List·getD-map (placedIn σ) (L .prims) i (at 0 (int 0))
+
+  pub distance-sub : (L : Layout j) (q : ℕ) → distance (subLayout σ L) q ≡ distance L q
+  distance-sub L q = ap off (nth-sub L q) ∙ placed-off σ (nth L q)
+
+  pub position-sub : (L : Layout j) (o : ℕ) → positionAt (subLayout σ L) o ≡ positionAt L o
+  unfolding positionAt
+  position-sub L o =
+      ap (λ (n : ℕ). first n (λ q. not (eqb (distance (subLayout σ L) q) o))) (count-sub σ L)
+      ∙ first-agree (count L) (λ q. not (eqb (distance (subLayout σ L) q) o)) (λ q. not (eqb (distance L q) o)) (λ q h. ap (λ (x : ℕ). not (eqb x o)) (distance-sub L q))
+
+  -- a run stays one under a substitution of both sides
+  pub run-subLayout : (L : Layout j) (q : ℕ) (M : Layout j) → Run L q M → Run (subLayout σ L) q (subLayout σ M)
+  run-subLayout L q M r =
+      let a = run-matches L q M r in
+      matches-run (subLayout σ L) q (subLayout σ M)
+      (record {
+        some = omega (arith, a .some, count-sub σ M);
+        room = omega (arith, a .room, count-sub σ L, count-sub σ M);
+        each = λ i h.
+            nth-sub L (q + i) ∙ ap (placedIn σ) (a .each i (omega (arith, h, count-sub σ M))) ∙ placed-moved σ (distance L q) (nth M i)
+            ∙ ap₂ moved (sym (distance-sub L q)) (sym (nth-sub M i));
+      })
+
+  pub same-subLayout : (L M : Layout j) → Same L M → Same (subLayout σ L) (subLayout σ M)
+  unfolding subLayout
+  same-subLayout L M s = record { some = omega (arith, s .some, length-map (L .prims) (placedIn σ)); equal = ap (map (placedIn σ)) (s .equal) }
+
+  -- the same of trees
+  module _ (m : Module) (ok : TypesOk m) (T U : Tree j) (g : GoodTree m T) (h : GoodTree m U) where
+    pub run-sub : (q : ℕ) → Run (flat m T) q (flat m U) → Run (flat m (sub σ T)) q (flat m (sub σ U))
+    run-sub q r = rw (flat-sub m ok σ T g, flat-sub m ok σ U h) (run-subLayout (flat m T) q (flat m U) r)
+
+    pub same-sub : Same (flat m T) (flat m U) → Same (flat m (sub σ T)) (flat m (sub σ U))
+    same-sub s = rw (flat-sub m ok σ T g, flat-sub m ok σ U h) (same-subLayout (flat m T) (flat m U) s)
+
+    pub runAt-sub : (o : ℕ) → RunAt (flat m T) o (flat m U) → RunAt (flat m (sub σ T)) o (flat m (sub σ U))
+    runAt-sub o r = rw (flat-sub m ok σ T g, flat-sub m ok σ U h) (rw (position-sub (flat m T) o) (run-subLayout (flat m T) (positionAt (flat m T) o) (flat m U) r))
+
+  pub flat-distance-sub : (m : Module) → TypesOk m → (T : Tree j) → GoodTree m T → (q : ℕ) → distance (flat m (sub σ T)) q ≡ distance (flat m T) q
+  flat-distance-sub m ok T g q = rw (flat-sub m ok σ T g) (distance-sub (flat m T) q)
