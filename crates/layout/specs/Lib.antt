@@ -5,3 +5,4 @@ pub mod Types
 pub mod Prims
 pub mod Flat
 pub mod Runs
+pub mod Heap
