@@ -3,7 +3,6 @@
 -- What a law asks of the module and the heap typing stands in `TypesOk`, `GoodTree` and `HeapOk`.
 use mathlib.Core.Path.{_≡_, refl, sym, ap, ap₂, _∙_, subst}
 use mathlib.Core.Logic.{_⊎_, inl, inr}
-use mathlib.Core.List.{List, [], _∷_}
 use Prim.Native.Nat.{ℕ, zero, suc, _+_, _-_, _*_, _^_, _/_, _%_, _<_, _≤_}
 use native.Mathlib.Nat.{mod-lt, div-add-mod, mul-le-mul-left, suc-inj}
 use native.Mathlib.Decide.{decLt}
@@ -11,15 +10,16 @@ use native.Mathlib.Omega.{arith}
 use lib.Dec.{eqb}
 use Rattle.words.specs.Choose.{cond-split}
 use Rattle.rules.specs.Limits.{sizeLimit, pages, pageBytes, memoryBytes}
-use Rattle.rules.specs.Types.{RegionKind, variable, live, Region, region, Tree, int, ptr, arr, struct, width, sub, Uses, Primitive, integer, pointer}
-use Rattle.rules.specs.Module.{Module, Function}
-use Rattle.rules.specs.Flat.{Placed, at, off, type, Has, here, Layout, subLayout, flat, size, count, distance, Run, RunAt, Same}
-use Rattle.rules.specs.Heap.{close, HeapTyping, Stands, Value, look, typeOf}
+use Rattle.rules.specs.Types.{variable, live, Variable, region, Tree, int, ptr, arr, struct, width, sub, Uses, Primitive, integer, pointer}
+use Rattle.rules.specs.Module.{Module}
+use Rattle.rules.specs.Flat.{at, type, Has, Layout, subLayout, flat, size, count, distance, Run, RunAt, Same}
+use Rattle.rules.specs.State.{View}
+use Rattle.rules.specs.Heap.{close, HeapTyping, heapTyping, Stands, Value, look, typeOf}
 use Rattle.rules.specs.Claim.{InObject, InRun}
 use Rattle.layout.specs.TypesOk.{GoodTree, good-arr, TypesOk}
 use Rattle.layout.specs.Types.{Outer, outer-close}
 use Rattle.layout.specs.Prims.{at-has, has-placed-inv}
-use Rattle.layout.specs.Flat.{flat-prim, size-prim, flat-inside, flat-apart, flat-has-prim, Apart, SamePlace, filled, distance-zero, Basic, has-basic, basic-wide, good-sub, flat-some, flat-sub, has-uses}
+use Rattle.layout.specs.Flat.{size-prim, flat-inside, flat-apart, flat-has-prim, Apart, SamePlace, filled, distance-zero, Basic, has-basic, basic-wide, good-sub, flat-some, flat-sub, has-uses}
 use Rattle.layout.specs.Runs.{flat-ascending, run-has, run-run, run-prim, run-size, prim-run, same-run, same-sym, has-element, distance-element}
 
 -- ---- the types of live regions
@@ -48,6 +48,11 @@ typeOf-good m fn map (suc k) f r h =
     (typeOf m fn map k) (m .function (fn k) .locals) r
     (λ i l _. good-sub (λ r. region (map k (r .number))) m (m .function (fn k) .regionType (m .function (fn k) .regionParams + i)) (f k i (omega arith) l))
     (λ l. typeOf-good m fn map k (λ j i g. f j i (omega arith)) r l) h
+
+-- of a state whose frames run functions of the module
+pub heap-ok : (m : Module) → TypesOk m → (v : View) (n : ℕ) → ((k : ℕ) → k < n → v .fn k < m .functions) → HeapOk m (heapTyping m v n)
+heap-ok m ok v n known r h =
+    typeOf-good m (v .fn) (v .map) n (λ k i l g. ok .regionTypes (v .fn k) (m .function (v .fn k) .regionParams + i) (known k l) (omega arith)) r h
 
 -- the pointers in an object of a closed type point where the map leads
 pub outer-flat : (m : Module) → TypesOk m → (P : ℕ → Type 0) (μ : ℕ → ℕ) (n : ℕ) (T : Tree variable) → GoodTree m T → Uses n T
@@ -145,6 +150,25 @@ value-prim m W (int w) v h = integer
 value-prim m W (ptr T r) v h = pointer
 value-prim m W (arr n T) v h = absurd h
 value-prim m W (struct N rs) v h = absurd h
+
+-- a value of a pointer type closed by a region map: zero, or the closed target stands there
+pub value-pointer : (m : Module) (W : HeapTyping) (μ : ℕ → ℕ) (T : Tree variable) (r : Variable) (v : ℕ)
+    → Value m W (close μ (ptr T r)) v → (v ≡ 0) ⊎ Stands m W (close μ T) (μ (r .number)) v
+unfolding sub
+value-pointer m W μ T r v h = h
+
+pub pointer-value : (m : Module) (W : HeapTyping) (μ : ℕ → ℕ) (T : Tree variable) (r : Variable) (v : ℕ)
+    → (v ≡ 0) ⊎ Stands m W (close μ T) (μ (r .number)) v → Value m W (close μ (ptr T r)) v
+unfolding sub
+pointer-value m W μ T r v h = h
+
+pub value-integer : (m : Module) (W : HeapTyping) (μ : ℕ → ℕ) (w v : ℕ) → Value m W (close μ (int w)) v → v < 256 ^ w
+unfolding sub
+value-integer m W μ w v h = h
+
+pub integer-value : (m : Module) (W : HeapTyping) (μ : ℕ → ℕ) (w v : ℕ) → v < 256 ^ w → Value m W (close μ (int w)) v
+unfolding sub
+integer-value m W μ w v h = h
 
 -- ---- runs in runs, at addresses
 

@@ -5,4 +5,5 @@ pub mod Types
 pub mod Prims
 pub mod Flat
 pub mod Runs
+pub mod Close
 pub mod Heap

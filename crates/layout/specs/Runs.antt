@@ -3,27 +3,26 @@
 -- in `TypesOk` and `GoodTree`.
 use mathlib.Core.Path.{_≡_, refl, sym, ap, ap₂, _∙_, subst}
 use mathlib.Core.Logic.{_⊎_, inl, inr}
-use mathlib.Core.Bool.{Bool, true, false, not}
-use mathlib.Core.List.{List, [], _∷_, _++_, map}
+use mathlib.Core.Bool.{Bool, not}
+use mathlib.Core.List.{List, [], _∷_, map}
 use Prim.Native.Nat.{ℕ, zero, suc, _+_, _-_, _*_, _≤_, _<_}
-use native.Mathlib.Nat.{add-zero, zero-add, add-assoc, not-suc-le-zero, le-of-suc-le-suc, mul-le-mul-right, le-mul-of-pos-right}
+use native.Mathlib.Nat.{add-zero, add-assoc, not-suc-le-zero, le-of-suc-le-suc, mul-le-mul-right}
 use native.Mathlib.Omega.{arith}
 use lib.Dec.{eqb}
 use lib.ListN.{length, getD, take, drop, length-take, length-drop, length-map, List·getD-append, List·getD-map}
 use lib.Seq.{getD-take, getD-drop, getD-append-add, ext-getD, take-length}
 use borrow.Author.Tests.{eqb-true, eq-eqb, ne-eqb, not-false}
 use Rattle.words.specs.First.{first}
-use Rattle.words.specs.FirstLaws.{first-le, first-is, first-fails, first-agree}
+use Rattle.words.specs.FirstLaws.{first-is, first-fails, first-agree}
 use Rattle.words.specs.Choose.{lt-or-le}
 use Rattle.rules.specs.Limits.{sizeLimit}
-use Rattle.rules.specs.Decide.{Each}
-use Rattle.rules.specs.Types.{RegionKind, variable, Region, Tree, int, arr, width, sub, Primitive}
+use Rattle.rules.specs.Types.{RegionKind, Region, Tree, int, arr, width, sub, Primitive}
 use Rattle.rules.specs.Module.{Module}
-use Rattle.rules.specs.Flat.{Placed, at, off, type, Has, here, there, Layout, single, moved, packed, copiesOf, copies, placedIn, subLayout, flat, size, count, distance, Run, RunAt, positionAt, Same}
+use Rattle.rules.specs.Flat.{Placed, at, off, type, Has, here, Layout, single, moved, packed, copiesOf, placedIn, subLayout, flat, size, count, distance, Run, RunAt, positionAt, Same}
 use Rattle.layout.specs.TypesOk.{GoodTree, TypesOk}
-use Rattle.layout.specs.Lists.{each-at, getD-map, map-same}
+use Rattle.layout.specs.Lists.{each-at, getD-map}
 use Rattle.layout.specs.Prims.{moved-moved, moved-zero, moved-off, placed-off, placed-moved, has-moved, has-take, has-drop, has-at, at-has, nth, count-copiesOf, copies-sized, count-sub}
-use Rattle.layout.specs.Flat.{Ordered, ordered-flat, has-inside, flat-inside, AllBasic, flat-basic, basic-wide, distance-zero, filled, flat-arr, flat-prim, flat-some, good-sized, element-sized, flat-sub}
+use Rattle.layout.specs.Flat.{Ordered, ordered-flat, has-inside, flat-inside, flat-basic, basic-wide, distance-zero, filled, flat-arr, flat-prim, element-sized, flat-sub}
 
 -- ---- positions
 
@@ -223,6 +222,9 @@ module _ {k : RegionKind} where
         some = same-sym L M s .some;
         equal = ap (take (count M)) (s .equal) ∙ take-length (M .prims) ∙ sym (map-moved-zero (M .prims)) ∙ ap (λ (x : ℕ). map (moved x) (M .prims)) (sym e);
       })
+
+  pub same-run-back : (L M : Layout k) → distance L 0 ≡ 0 → Same L M → RunAt M 0 L
+  same-run-back L M e s = same-run M L (ap (λ (l : List (Placed k)). off (getD l 0 (at 0 (int 0)))) (sym (s .equal)) ∙ e) (same-sym L M s)
 
   -- ---- one primitive
 
