@@ -218,12 +218,19 @@ small-copies n L =
     split-le (λ M. (M .size ≤ sizeLimit) ⊎ (count M ≡ 0)) (n * L .size) sizeLimit (copiesOf n L) noLayout
     (λ h. inl (omega (arith, size-copiesOf n L))) (λ _. inr refl)
 
+small-beside : (L M : Layout variable) → Small (beside L M)
+unfolding Small beside
+small-beside L M =
+    split-le (λ N. (N .size ≤ sizeLimit) ⊎ (count N ≡ 0)) (L .size + M .size) sizeLimit (packed L M) noLayout (λ h. inl h) (λ _. inr refl)
+
+small-from : (ls : List (Layout variable)) (L : Layout variable) (Ts : List (Tree variable)) → Small L → Small (fieldsFrom ls L Ts)
+unfolding fieldsFrom
+small-from ls L [] h = h
+small-from ls L (T ∷ Ts) h = small-from ls (beside L (flatWith ls T)) Ts (small-beside L (flatWith ls T))
+
 small-fields : (ls : List (Layout variable)) (Ts : List (Tree variable)) → Small (fieldsWith ls Ts)
-unfolding Small fieldsWith beside
-small-fields ls [] = inl (omega arith)
-small-fields ls (T ∷ Ts) =
-    split-le (λ M. (M .size ≤ sizeLimit) ⊎ (count M ≡ 0)) (flatWith ls T .size + fieldsWith ls Ts .size) sizeLimit (packed (flatWith ls T) (fieldsWith ls Ts)) noLayout
-    (λ h. inl h) (λ _. inr refl)
+unfolding Small fieldsWith
+small-fields ls Ts = small-from ls empty Ts (inl (omega arith))
 
 small-layouts : (m : Module) (n N : ℕ) → Small (getD (layouts m n) N noLayout)
 unfolding Small layouts
