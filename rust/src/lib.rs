@@ -1,0 +1,13 @@
+//! A reference interpreter of region-checked modules, written from document 01 alone.
+//! It shares no text and no definition with the proved code, so that an error of either shows
+//! as a difference between the two.
+
+pub mod checker;
+pub mod corpus;
+pub mod file;
+pub mod host;
+pub mod machine;
+pub mod module;
+pub mod state;
+pub mod state_test;
+pub mod types;
