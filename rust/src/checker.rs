@@ -85,10 +85,7 @@ fn function_fits(module: &Module, number: usize, function: &Function) -> bool {
 fn typing_fault(module: &Module) -> Option<usize> {
     let mut types = Types::new(module);
     for function in &module.functions {
-        let registers = terms(&mut types, &function.register_types);
-        let regions = terms(&mut types, &function.region_types);
-        let return_type = types.term(function.return_term, &IDENTITY);
-        let mut typing = Typing { module, types: &mut types, registers, regions, return_type };
+        let mut typing = Typing::new(module, &mut types, function);
         let fault = function.code.iter().find(|i| typing.rule(i).is_none());
         if let Some(instruction) = fault {
             return Some(instruction.place);
@@ -102,9 +99,9 @@ fn terms(types: &mut Types<Variable>, terms: &[u8]) -> Vec<TypeId> {
 }
 
 /// The types of one function's registers and regions.
-struct Typing<'t, 'm> {
+pub struct Typing<'t, 'm> {
     module: &'m Module,
-    types: &'t mut Types<'m, Variable>,
+    pub types: &'t mut Types<'m, Variable>,
     registers: Vec<TypeId>,
     regions: Vec<TypeId>,
     return_type: TypeId,
@@ -115,8 +112,19 @@ fn holds(condition: bool) -> Option<()> {
     condition.then_some(())
 }
 
-impl Typing<'_, '_> {
-    fn register(&self, register: u8) -> TypeId {
+impl<'t, 'm> Typing<'t, 'm> {
+    pub fn new(
+        module: &'m Module,
+        types: &'t mut Types<'m, Variable>,
+        function: &Function,
+    ) -> Typing<'t, 'm> {
+        let registers = terms(types, &function.register_types);
+        let regions = terms(types, &function.region_types);
+        let return_type = types.term(function.return_term, &IDENTITY);
+        Typing { module, types, registers, regions, return_type }
+    }
+
+    pub fn register(&self, register: u8) -> TypeId {
         self.registers[usize::from(register)]
     }
 
@@ -140,7 +148,8 @@ impl Typing<'_, '_> {
         self.regions[usize::from(region.0)]
     }
 
-    fn rule(&mut self, instruction: &Instruction) -> Option<()> {
+    /// The instruction keeps its kind's rule; its operands are in range.
+    pub fn rule(&mut self, instruction: &Instruction) -> Option<()> {
         let Instruction { kind, a, b, c, d, .. } = *instruction;
         match kind {
             16 => {

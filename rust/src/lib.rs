@@ -2,12 +2,16 @@
 //! It shares no text and no definition with the proved code, so that an error of either shows
 //! as a difference between the two.
 
+pub mod builder;
 pub mod checker;
 pub mod corpus;
 pub mod file;
+pub mod generator;
 pub mod host;
 pub mod machine;
 pub mod module;
+pub mod prng;
 pub mod state;
 pub mod state_test;
+pub mod tally;
 pub mod types;
