@@ -217,13 +217,9 @@ pub fn new_map(
     function: &Function,
     given: &[Live],
 ) -> [Live; MAX_REGIONS] {
-    let mut live = [false; LIVE_REGIONS];
-    for frame in frames {
-        for region in local_regions(module, frame) {
-            live[usize::from(region.0)] = true;
-        }
-    }
-    let free = (0..LIVE_REGIONS).filter(|&number| !live[number]).map(|number| Live(number as u8));
+    let regions = frames.iter().flat_map(|frame| local_regions(module, frame));
+    let live = regions.fold(0_u128, |live, region| live | 1 << region.0);
+    let free = (0..LIVE_REGIONS as u8).filter(|number| live >> number & 1 == 0).map(Live);
     let locals = function.region_types.len() - function.region_parameters;
     let mut map = [Live(0); MAX_REGIONS];
     let regions = given.iter().copied().chain(free.take(locals));

@@ -189,7 +189,7 @@ fn c6_c7_c8_operations() {
     assert_eq!(nearest(1, 3), ended(0, 5));
     assert_eq!(nearest(2, 3), ended(1, 5));
     assert_eq!(nearest(i32::MIN, 1), ended(i32::MIN as u32, 5));
-    assert_eq!(nearest(i32::MIN, 2), ended(i32::MIN as u32 / 2 | 0x8000_0000, 5));
+    assert_eq!(nearest(i32::MIN, 2), ended(0xc000_0000, 5));
     assert_eq!(nearest(i32::MIN, i32::MIN), ended(1, 5));
     assert_eq!(nearest(i32::MAX, i32::MIN), ended(u32::MAX, 5));
     assert_eq!(nearest(i32::MIN, -1), stopped(36, 3));
