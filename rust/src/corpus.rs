@@ -1,7 +1,9 @@
 //! Reads and runs files of cases with expected answers: the verdict on a module, opening, calls
 //! of going on, and the reader of states.
 
+use crate::generator::Sample;
 use crate::host::{self, Answer};
+use crate::prng::Prng;
 use crate::state::{MEMORY_AT, OUTPUT_BYTES, STATE_BYTES};
 use std::path::{Path, PathBuf};
 
@@ -39,6 +41,10 @@ struct Case {
 }
 
 impl Case {
+    fn new() -> Case {
+        Case { module: Vec::new(), state: vec![0; STATE_BYTES], output: vec![0; OUTPUT_BYTES] }
+    }
+
     /// What the line should be: its question repeated with our answer. None if unreadable.
     fn answer_line(&mut self, line: &str) -> Option<String> {
         let words: Vec<&str> = line.split(' ').collect();
@@ -99,6 +105,29 @@ impl Case {
     }
 }
 
+/// A case with this interpreter's answers: the verdict and, of an accepted module, a run in two
+/// calls and two questions to the reader.
+pub fn write(name: &str, file: &[u8], sample: &Sample, rng: &mut Prng) -> String {
+    let mut case = Case::new();
+    let mut text = format!("case {name}\n");
+    let mut ask = |question: String| {
+        let line = case.answer_line(&question).expect("a question of a known form");
+        text += &line;
+        text.push('\n');
+        line
+    };
+    ask(format!("module {}", hex(file)));
+    if ask("check".to_string()).starts_with("check accepted") {
+        ask(format!("open {}", hex(&sample.arguments)));
+        let first = rng.below(40);
+        for budget in [first, 20_000] {
+            ask(format!("go {budget} {}", hex(&sample.form)));
+            ask(format!("object {}", 256 + rng.below(1024)));
+        }
+    }
+    text
+}
+
 /// Runs all cases of a text; differences are named by case and line.
 pub fn run(text: &str) -> Report {
     let mut report = Report::default();
@@ -106,8 +135,7 @@ pub fn run(text: &str) -> Report {
         let mut lines = block.trim_matches('\n').lines();
         let name = lines.next().unwrap_or_default();
         report.cases += 1;
-        let mut case =
-            Case { module: Vec::new(), state: vec![0; STATE_BYTES], output: vec![0; OUTPUT_BYTES] };
+        let mut case = Case::new();
         for line in lines {
             let ours = case.answer_line(line);
             if ours.as_deref() != Some(line) {

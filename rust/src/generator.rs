@@ -11,6 +11,10 @@ use crate::module::{
     MAX_LIST, MAX_REGIONS, MAX_REGISTERS, MAX_TERMS,
 };
 use crate::prng::Prng;
+use crate::state::{
+    FRAMES_AT, FRAME_BYTES, HEADER_END, MAP_AT, MARKS_AT, MARK_BYTES, MEMORY_AT, OWNERS_AT,
+    PAGE_BYTES, STATE_BYTES,
+};
 use crate::types::{regions_used, sizes, Type, Types, Variable, MAX_SIZE, NO_SIZE};
 
 /// A module with what a run of it is lent.
@@ -905,6 +909,30 @@ fn damage_records(rng: &mut Prng, records: &mut Vec<Record>) {
                 let register = rng.below(4) as u8;
                 records[i] = code::copy(register, register);
             }
+        }
+    }
+}
+
+/// Changes a byte or a word of a state, mostly where the outcome can still be a state.
+pub fn change_state(rng: &mut Prng, state: &mut [u8]) {
+    let frame = FRAMES_AT + FRAME_BYTES * rng.below(3);
+    let at = match rng.below(10) {
+        0 => rng.below(STATE_BYTES),
+        1 => rng.below(HEADER_END),
+        2 => OWNERS_AT + rng.below(8),
+        3 => MARKS_AT + rng.below(5 * MARK_BYTES),
+        4 | 5 => frame + rng.below(MAP_AT),
+        6 | 7 => frame + rng.between(MAP_AT, FRAME_BYTES - 1),
+        _ => MEMORY_AT + rng.below(5 * PAGE_BYTES),
+    };
+    match rng.below(3) {
+        0 => state[at] ^= 1 << rng.below(8),
+        1 => state[at] = rng.below(6) as u8,
+        _ => {
+            // An address in a low page, where a word may stand.
+            let at = at & !3;
+            let address = (PAGE_BYTES * rng.between(1, 4) + 4 * rng.below(8)) as u32;
+            state[at..at + 4].copy_from_slice(&address.to_le_bytes());
         }
     }
 }

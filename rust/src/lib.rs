@@ -4,6 +4,7 @@
 
 pub mod builder;
 pub mod checker;
+pub mod compare;
 pub mod corpus;
 pub mod file;
 pub mod generator;

@@ -1,7 +1,7 @@
 //! The state test, the values of types, and the reader of states (document 01, "The machine").
 //! `State::from_bytes` and `passes` together are document 01's state test.
 
-use crate::module::{Function, Module, KIND_CALL, MAX_REGIONS};
+use crate::module::{Function, Module, KIND_CALL};
 use crate::state::{
     Frame, State, ENDED, FIRST_STOP, LAST_STOP, LIVE_REGIONS, MAX_FRAMES, MEMORY_BYTES,
     OUTPUT_BYTES, PAGES, PAGE_BYTES, RUNNING,
@@ -208,23 +208,4 @@ pub fn object_at(module: &Module, state: &State, address: u32) -> Option<Range<u
     let place = object_in_page(offset, typing.types.size(object))?;
     let page_start = address - offset;
     Some(page_start + place.start..page_start + place.end)
-}
-
-/// The map of a new frame: the call's regions, then the lowest numbers not live, in order.
-pub fn new_map(
-    module: &Module,
-    frames: &[Frame],
-    function: &Function,
-    given: &[Live],
-) -> [Live; MAX_REGIONS] {
-    let regions = frames.iter().flat_map(|frame| local_regions(module, frame));
-    let live = regions.fold(0_u128, |live, region| live | 1 << region.0);
-    let free = (0..LIVE_REGIONS as u8).filter(|number| live >> number & 1 == 0).map(Live);
-    let locals = function.region_types.len() - function.region_parameters;
-    let mut map = [Live(0); MAX_REGIONS];
-    let regions = given.iter().copied().chain(free.take(locals));
-    for (entry, region) in map.iter_mut().zip(regions) {
-        *entry = region;
-    }
-    map
 }

@@ -3,7 +3,7 @@
 //! are accounted for, and states changed by hand are refused or go on soundly.
 
 use reference::file::Refusal;
-use reference::generator::{damage, draw, Sample};
+use reference::generator::{change_state, damage, draw, Sample};
 use reference::host;
 use reference::machine::{Outcome, Run};
 use reference::prng::Prng;
@@ -154,30 +154,6 @@ fn changed_states_are_refused_or_go_on_soundly() {
     }
     println!("changed states: {passed} pass, {refused} refused");
     assert!(passed > 200 && refused > 200);
-}
-
-/// Changes a byte, mostly where it can stay a state.
-fn change_state(rng: &mut Prng, state: &mut [u8]) {
-    let at = match rng.below(10) {
-        0 => rng.below(STATE_BYTES),
-        1 => rng.below(8),
-        2 => 64 + rng.below(6),
-        3 => 128 + rng.below(128),
-        4 | 5 => 2176 + rng.below(112),
-        6 => 2176 + 128 * rng.below(3) + 112 + rng.below(16),
-        7 => 2304 + rng.below(128),
-        _ => 8192 + rng.below(1024),
-    };
-    let page_addresses = [256, 260, 264, 512, 516, 576, 768];
-    match rng.below(3) {
-        0 => state[at] ^= 1 << rng.below(8),
-        1 => state[at] = rng.below(5) as u8,
-        _ => {
-            let at = at & !3;
-            let address: u32 = page_addresses[rng.below(page_addresses.len())];
-            state[at..at + 4].copy_from_slice(&address.to_le_bytes());
-        }
-    }
 }
 
 #[test]
