@@ -436,11 +436,17 @@ impl Emitter<'_, '_> {
             }
             14..30 => {
                 let b = self.rng.pick(&self.integers)?;
-                let c = self.rng.pick(&integers)?;
-                let a = self.rng.pick(&integers)?;
                 let divides_or_shifts = self.rng.percent(40);
                 let (low, high) = if divides_or_shifts { (6, 10) } else { (0, 13) };
                 let operation = self.rng.between(low, high) as u32;
+                let width = self.width(b);
+                let of_width = |width: u8| -> Vec<u8> {
+                    integers.iter().copied().filter(|&r| self.width(r) == width).collect()
+                };
+                let operands = of_width(width);
+                let results = of_width(if operation > 10 { 1 } else { width });
+                let c = self.rng.pick(&operands)?;
+                let a = self.rng.pick(&results)?;
                 let candidate = instruction(18, a, b, c, operation);
                 if !self.typed(&candidate) {
                     return None;

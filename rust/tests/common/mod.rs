@@ -64,7 +64,7 @@ impl Session {
 
     pub fn object(&self, address: u32) -> Option<(u64, u64)> {
         let answer = host::object(&self.file, &self.state, address);
-        (answer[0] == host::GOOD).then_some((answer[1] - 8192, answer[2]))
+        (answer[0] == host::GOOD).then(|| (answer[1] - 8192, answer[2]))
     }
 
     pub fn view(&self) -> State {
