@@ -86,7 +86,7 @@ fn typing_fault(module: &Module) -> Option<usize> {
     let mut types = Types::new(module);
     for function in &module.functions {
         let mut typing = Typing::new(module, &mut types, function);
-        let fault = function.code.iter().find(|i| typing.rule(i).is_none());
+        let fault = function.code.iter().find(|instruction| typing.rule(instruction).is_none());
         if let Some(instruction) = fault {
             return Some(instruction.place);
         }

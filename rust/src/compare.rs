@@ -1,7 +1,8 @@
 //! Compares another implementation of the five calls with this one on random modules: answers,
 //! state bytes and output bytes, refused calls included.
 
-use crate::generator::{change_state, damage, draw, Sample};
+use crate::damage::{change_state, damage};
+use crate::generator::{draw, Sample};
 use crate::host::{self, Answer};
 use crate::prng::Prng;
 use crate::state::{OUTPUT_BYTES, STATE_BYTES};

@@ -1,4 +1,5 @@
-//! The module file: blocks, records and refusals 1 to 3 (document 01, "The module file").
+//! The module file: blocks, their checks and records, and refusals 1 to 3 (document 01, "The
+//! module file").
 
 pub const BLOCK_BYTES: usize = 512;
 pub const MAX_BLOCKS: usize = 64;

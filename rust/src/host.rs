@@ -22,7 +22,10 @@ const ARGUMENT_BYTES: usize = 4;
 const FUNCTIONS_UNIT: u64 = 65_536;
 
 fn answer(result: Result<Answer, Refusal>) -> Answer {
-    result.unwrap_or_else(|r| [REFUSED, u64::from(r.number), r.place as u64, 0])
+    result.unwrap_or_else(|refusal| {
+        let Refusal { number, place } = refusal;
+        [REFUSED, u64::from(number), place as u64, 0]
+    })
 }
 
 fn require(condition: bool, number: u8) -> Result<(), Refusal> {

@@ -6,6 +6,7 @@ pub mod builder;
 pub mod checker;
 pub mod compare;
 pub mod corpus;
+pub mod damage;
 pub mod file;
 pub mod generator;
 pub mod host;

@@ -83,7 +83,7 @@ pub struct Module {
 impl Module {
     /// Instructions of all functions; record 35 is not counted.
     pub fn instructions(&self) -> usize {
-        self.functions.iter().map(|f| f.code.len()).sum()
+        self.functions.iter().map(|function| function.code.len()).sum()
     }
 }
 
@@ -187,13 +187,13 @@ impl Walk<'_> {
             self.roles.push(Role::Term(self.terms));
             self.terms += 1;
         }
-        while let Some(header) = self.next().filter(|r| r.kind() == KIND_NAME) {
+        while let Some(header) = self.next().filter(|record| record.kind() == KIND_NAME) {
             self.roles.push(Role::Name(self.names));
             self.names += 1;
             self.expect(KIND_FIELDS, Role::Fields { header })?;
         }
         self.names_ended = matches!(self.next_kind(), None | Some(0 | KIND_FUNCTION));
-        while let Some(header) = self.next().filter(|r| r.kind() == KIND_FUNCTION) {
+        while let Some(header) = self.next().filter(|record| record.kind() == KIND_FUNCTION) {
             self.function(header)?;
         }
         self.functions_ended = matches!(self.next_kind(), None | Some(0));
@@ -282,7 +282,7 @@ impl Walk<'_> {
                         !self.functions_ended || (value as usize) < self.functions.len()
                     }
                     Operand::Regions => {
-                        let used = self.callee(record.b()).map(|f| usize::from(f.a()));
+                        let used = self.callee(record.b()).map(|callee| usize::from(callee.a()));
                         list_fits(&record.d_bytes(), used, written_regions(header))
                     }
                 })

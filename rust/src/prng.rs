@@ -1,4 +1,5 @@
-//! A small seeded generator of random numbers (SplitMix64), so that runs can be repeated.
+//! A small generator of random numbers (SplitMix64). The seed alone decides them, so that runs
+//! can be repeated.
 
 #[derive(Clone, Debug)]
 pub struct Prng(u64);

@@ -1,4 +1,5 @@
-//! The state of a machine and its 24,576 bytes.
+//! The state of a machine and its 24,576 bytes. What does not depend on a module is tested when
+//! the bytes are read: spare bytes and ranges.
 
 use crate::module::{MAX_REGIONS, MAX_REGISTERS};
 use crate::types::Live;

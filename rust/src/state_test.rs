@@ -174,7 +174,8 @@ fn values_pass(module: &Module, state: &State) -> bool {
 }
 
 fn page_values_pass(typing: &mut HeapTyping, state: &State, page: usize) -> bool {
-    let Some(object) = state.owners[page].and_then(|o| typing.regions[usize::from(o.0)]) else {
+    let object_of = |owner: Live| typing.regions[usize::from(owner.0)];
+    let Some(object) = state.owners[page].and_then(object_of) else {
         return true;
     };
     let size = typing.types.size(object) as usize;

@@ -1,6 +1,8 @@
-//! Counts the verdicts and answers of random modules, half of them damaged.
+//! Counts the verdicts and answers of random modules, half of them damaged, so that a generator
+//! which misses one shows.
 
-use crate::generator::{damage, draw};
+use crate::damage::damage;
+use crate::generator::draw;
 use crate::host;
 use crate::module::{decode, Module, KIND_CALL};
 use crate::prng::Prng;

@@ -1,4 +1,5 @@
-//! The comparison itself: it agrees with this interpreter and notices one that errs.
+//! The comparison itself: it finds no difference with this interpreter, and notices each of
+//! several that err in one point.
 
 use reference::compare::{compare, Interface, Reference};
 use reference::host::{self, Answer};

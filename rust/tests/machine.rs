@@ -182,7 +182,9 @@ fn checks_do_not_match_across_objects() {
 
 #[test]
 fn c6_c7_c8_operations() {
-    let nearest = |n: i32, d: i32| operate(I32, 10, n as u32, d as u32);
+    let nearest = |dividend: i32, divisor: i32| {
+        operate(I32, code::SIGNED_QUOTIENT, dividend as u32, divisor as u32)
+    };
     assert_eq!(nearest(5, 2), ended(3, 5));
     assert_eq!(nearest(-5, 2), ended(-3_i32 as u32, 5));
     assert_eq!(nearest(7, -2), ended(-4_i32 as u32, 5));
@@ -410,7 +412,10 @@ fn calls_with_regions() {
     let map: Vec<u8> = view.frames[1].map.iter().map(|live| live.0).collect();
     assert_eq!(map, [0, 2, 0, 0, 0, 0, 0]);
     assert_eq!(view.frames[0].instruction, 0);
-    assert_eq!((view.owners[1].map(|o| o.0), view.owners[2].map(|o| o.0)), (Some(2), Some(0)));
+    assert_eq!(
+        (view.owners[1].map(|owner| owner.0), view.owners[2].map(|owner| owner.0)),
+        (Some(2), Some(0))
+    );
     assert!(session.passes());
     session.go(1);
     let view = session.view();

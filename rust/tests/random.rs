@@ -1,14 +1,17 @@
 //! What must hold of every module, tried on random ones: a call equals the same budget split, the
-//! state passes the state test after every call, bytes and state are one another's image, pages
-//! are accounted for, and states changed by hand are refused or go on soundly.
+//! state passes the state test after every step, pages are accounted for, no step changes other
+//! bytes than its own, and states changed by hand are refused or go on soundly.
 
+use reference::damage::{change_state, damage};
 use reference::file::Refusal;
-use reference::generator::{change_state, damage, draw, Sample};
+use reference::generator::{draw, Sample};
 use reference::host;
 use reference::machine::{Outcome, Run};
+use reference::module::{decode, Module, Term};
 use reference::prng::Prng;
-use reference::state::{State, OUTPUT_BYTES, STATE_BYTES};
+use reference::state::{State, MEMORY_BYTES, OUTPUT_BYTES, PAGES, PAGE_BYTES, STATE_BYTES};
 use reference::tally::Tally;
+use std::ops::Range;
 
 /// A module with its state and output, as a host keeps them.
 #[derive(Clone)]
@@ -108,15 +111,51 @@ fn a_split_budget_gives_the_same() {
 }
 
 #[test]
-fn the_state_test_passes_after_every_step() {
+fn each_step_changes_only_what_it_may() {
     for seed in 0..400 {
         let mut rng = Prng::new(seed ^ 0x57e9);
         let mut session = Session::open(&draw(&mut rng));
+        let module = decode(&session.file).expect("a module");
         for _ in 0..150 {
-            if session.go_and_test(1).outcome != Outcome::Running {
+            let before = session.clone();
+            let old = State::from_bytes(&before.state).expect("a state");
+            let run = session.go_and_test(1);
+            if let Outcome::Stopped(number) = run.outcome {
+                let mut expected = before.state;
+                expected[0] = number;
+                assert!(session.state == expected && session.output == before.output);
+            } else {
+                let new = State::from_bytes(&session.state).expect("a state");
+                let bytes = may_write(&module, &old, &new);
+                let changed = (0..MEMORY_BYTES).filter(|&at| old.memory[at] != new.memory[at]);
+                assert!(changed.into_iter().all(|at| bytes.contains(&at)), "seed {seed}");
+            }
+            if run.outcome != Outcome::Running {
                 break;
             }
         }
+    }
+}
+
+/// The page bytes that a step from one state to the next may write: those of the value stored,
+/// or a page that is granted.
+fn may_write(module: &Module, old: &State, new: &State) -> Range<usize> {
+    let frame = old.frames.last().expect("a frame");
+    let function = &module.functions[usize::from(frame.function)];
+    let instruction = &function.code[usize::from(frame.instruction)];
+    let granted = (0..PAGES).find(|&page| old.owners[page] != new.owners[page]);
+    match (instruction.kind, granted) {
+        (26, _) => {
+            let address = frame.registers[usize::from(instruction.a)] as usize;
+            let stored = function.register_types[usize::from(instruction.b)];
+            let width = match module.terms[usize::from(stored)] {
+                Term::Integer { width } => usize::from(width),
+                _ => 4,
+            };
+            address..address + width
+        }
+        (27, Some(page)) => PAGE_BYTES * page..PAGE_BYTES * (page + 1),
+        _ => 0..0,
     }
 }
 

@@ -142,18 +142,18 @@ fn refusal_4_order_and_ends() {
     assert_eq!(byte(0, 0, 99), (4, 0));
     // 6, 8, 9 and 35 missing, where they should stand.
     for place in [8, 10, 11, 16, 20, 21] {
-        assert_eq!(changed(|r| _ = r.remove(place)), (4, place as u64));
+        assert_eq!(changed(|records| _ = records.remove(place)), (4, place as u64));
     }
     // Code too short and too long for its header; a 35 astray.
     assert_eq!(byte(9, 6, 7), (4, 19));
     assert_eq!(byte(9, 6, 5), (4, 18));
-    assert_eq!(changed(|r| r.insert(14, list_record(35, &[]))), (4, 14));
+    assert_eq!(changed(|records| records.insert(14, list_record(35, &[]))), (4, 14));
     // A term behind names, a name behind functions, a function behind filler.
-    assert_eq!(changed(|r| r.insert(9, record(1, 4, 0, 0, 0))), (4, 9));
-    assert_eq!(changed(|r| r.push(record(5, 0, 1, 0, 0))), (4, 24));
-    let behind_filler = changed(|r| r.extend([Record([0; 8]), record(7, 0, 0, 1, 0)]));
+    assert_eq!(changed(|records| records.insert(9, record(1, 4, 0, 0, 0))), (4, 9));
+    assert_eq!(changed(|records| records.push(record(5, 0, 1, 0, 0))), (4, 24));
+    let behind_filler = changed(|records| records.extend([Record([0; 8]), record(7, 0, 0, 1, 0)]));
     assert_eq!(behind_filler, (4, 25));
-    assert_eq!(changed(|r| r.push(record(0, 0, 0, 0, 1))), (4, 24));
+    assert_eq!(changed(|records| records.push(record(0, 0, 0, 0, 1))), (4, 24));
     // A file that ends in code has its record count as place.
     let endless = vec![code::constant(0, 0); 200];
     let mut records = with_code(&[I32], &endless);
@@ -290,21 +290,21 @@ fn behind_a_break_nothing_is_known() {
         })
     };
     assert_eq!(broken(&|_| ()), (4, 18));
-    assert_eq!(broken(&|r| r[4].0[1] = 1), (4, 4));
-    assert_eq!(broken(&|r| r[15].0[2] = 9), (4, 18));
+    assert_eq!(broken(&|records| records[4].0[1] = 1), (4, 4));
+    assert_eq!(broken(&|records| records[15].0[2] = 9), (4, 18));
     // Regions and arguments of a callee not reached: in range or zero.
-    assert_eq!(broken(&|r| r[15].0[7] = 1), (4, 18));
-    assert_eq!(broken(&|r| r[15].0[7] = 2), (4, 15));
-    assert_eq!(broken(&|r| r[16].0[7] = 3), (4, 18));
-    assert_eq!(broken(&|r| r[16].0[7] = 4), (4, 16));
+    assert_eq!(broken(&|records| records[15].0[7] = 1), (4, 18));
+    assert_eq!(broken(&|records| records[15].0[7] = 2), (4, 15));
+    assert_eq!(broken(&|records| records[16].0[7] = 3), (4, 18));
+    assert_eq!(broken(&|records| records[16].0[7] = 4), (4, 16));
     // A break before the names' end: name 1 may stand behind.
-    let in_names = changed(|r| {
-        r[4].0[1] = 1;
-        r[8].0[0] = 200;
+    let in_names = changed(|records| {
+        records[4].0[1] = 1;
+        records[8].0[0] = 200;
     });
     assert_eq!(in_names, (4, 8));
     // Faults before the break come first, by place.
-    assert_eq!(broken(&|r| r[13].0[1] = 99), (4, 13));
+    assert_eq!(broken(&|records| records[13].0[1] = 99), (4, 13));
 }
 
 #[test]
@@ -315,39 +315,39 @@ fn refusal_5_sizes() {
         module.function(&function_0(&[I32], &[code::ret(0)]));
         verdict(&module.records())
     };
-    let bytes_and_one = |m: &mut ModuleBuilder| {
-        let bytes = m.array(I8, 256);
-        m.name(0, &[bytes, I8]);
+    let bytes_and_one = |module: &mut ModuleBuilder| {
+        let bytes = module.array(I8, 256);
+        module.name(0, &[bytes, I8]);
     };
-    assert_eq!(types(&|m| _ = m.array(I8, 256)), ACCEPTED);
+    assert_eq!(types(&|module| _ = module.array(I8, 256)), ACCEPTED);
     assert_eq!(types(&bytes_and_one), (5, 4));
-    assert_eq!(types(&|m| _ = m.array(I32, 65)), (5, 3));
+    assert_eq!(types(&|module| _ = module.array(I32, 65)), (5, 3));
     // A term of a name without size stands before the name.
-    let of_itself = |m: &mut ModuleBuilder| {
-        let itself = m.name_term(0, &[]);
-        m.name(0, &[itself]);
+    let of_itself = |module: &mut ModuleBuilder| {
+        let itself = module.name_term(0, &[]);
+        module.name(0, &[itself]);
     };
     assert_eq!(types(&of_itself), (5, 3));
-    let pointer_to_itself = |m: &mut ModuleBuilder| {
-        let itself = m.name_term(0, &[0]);
-        let pointer = m.pointer(itself, 0);
-        m.name(1, &[pointer]);
+    let pointer_to_itself = |module: &mut ModuleBuilder| {
+        let itself = module.name_term(0, &[0]);
+        let pointer = module.pointer(itself, 0);
+        module.name(1, &[pointer]);
     };
     assert_eq!(types(&pointer_to_itself), ACCEPTED);
     // A higher name outside pointers, cycle or not; an array does not hide it.
-    let of_a_higher_one = |m: &mut ModuleBuilder| {
-        let higher = m.name_term(1, &[]);
-        let several = m.array(higher, 2);
-        m.name(0, &[several]);
-        m.name(0, &[I32]);
+    let of_a_higher_one = |module: &mut ModuleBuilder| {
+        let higher = module.name_term(1, &[]);
+        let several = module.array(higher, 2);
+        module.name(0, &[several]);
+        module.name(0, &[I32]);
     };
     assert_eq!(types(&of_a_higher_one), (5, 5));
     // Wrong argument counts, at that term alone.
     let wrong_count = |arguments: &'static [u8]| {
-        types(&move |m: &mut ModuleBuilder| {
-            let term = m.name_term(0, arguments);
-            m.pointer(term, 0);
-            m.name(1, &[I32]);
+        types(&move |module: &mut ModuleBuilder| {
+            let term = module.name_term(0, arguments);
+            module.pointer(term, 0);
+            module.name(1, &[I32]);
         })
     };
     assert_eq!(wrong_count(&[]), (5, 3));
@@ -355,18 +355,18 @@ fn refusal_5_sizes() {
     assert_eq!(wrong_count(&[0, 0]), (5, 3));
     // A field that uses a region its name lacks, under a pointer or as an argument.
     let lacking = |regions: u8| {
-        types(&move |m: &mut ModuleBuilder| {
-            let inner = m.pointer(I32, 1);
-            let outer = m.pointer(inner, 0);
-            m.name(regions, &[outer]);
+        types(&move |module: &mut ModuleBuilder| {
+            let inner = module.pointer(I32, 1);
+            let outer = module.pointer(inner, 0);
+            module.name(regions, &[outer]);
         })
     };
     assert_eq!(lacking(1), (5, 5));
     assert_eq!(lacking(2), ACCEPTED);
-    let as_argument = |m: &mut ModuleBuilder| {
-        let term = m.name_term(0, &[1]);
-        m.name(1, &[I32]);
-        m.name(1, &[term]);
+    let as_argument = |module: &mut ModuleBuilder| {
+        let term = module.name_term(0, &[1]);
+        module.name(1, &[I32]);
+        module.name(1, &[term]);
     };
     assert_eq!(types(&as_argument), (5, 6));
 }
@@ -410,20 +410,20 @@ fn refusal_6_functions() {
     assert_eq!(byte(11, 2, 4), (6, 9));
     assert_eq!(byte(19, 4, 4), (6, 19));
     // Function 0: region parameters, a parameter or a return other than i32.
-    let region_parameter = changed(|r| (r[9].0[1], r[9].0[2]) = (1, 1));
+    let region_parameter = changed(|records| (records[9].0[1], records[9].0[2]) = (1, 1));
     assert_eq!(region_parameter, (6, 9));
     assert_eq!(byte(9, 4, I8), (6, 9));
     assert_eq!(byte(9, 5, 2), (6, 9));
     // A region beyond the scope, in a region type and in a register.
     assert_eq!(byte(20, 1, 6), (6, 19));
-    let local_type = changed(|r| r[6] = record(4, 0, 1, 0, packed(&[2])));
+    let local_type = changed(|records| records[6] = record(4, 0, 1, 0, packed(&[2])));
     assert_eq!(local_type, (6, 9));
-    let register = changed(|r| r[3] = record(2, I32, 2, 0, 0));
+    let register = changed(|records| records[3] = record(2, I32, 2, 0, 0));
     assert_eq!(register, (5, 7));
     // 6 of any function before 7 of any.
-    let both = changed(|r| {
-        r[13] = code::field(2, 1, 9);
-        r[19].0[4] = 4;
+    let both = changed(|records| {
+        records[13] = code::field(2, 1, 9);
+        records[19].0[4] = 4;
     });
     assert_eq!(both, (6, 19));
 }
@@ -544,7 +544,7 @@ fn refusal_7_pointers() {
 #[test]
 fn refusal_7_calls() {
     // Region 1 has type pair [1] and so fits; the argument still points into region 0.
-    assert_eq!(changed(|r| r[15] = code::call(0, 1, &[1], &[])[0]), (7, 15));
+    assert_eq!(changed(|records| records[15] = code::call(0, 1, &[1], &[])[0]), (7, 15));
     let mut module = integers();
     let near = module.pointer(I32, 0);
     let far = module.pointer(I32, 1);
@@ -586,14 +586,14 @@ fn refusal_8_and_its_order() {
     // The last instruction is the 33, not its 35.
     assert_eq!(ends_with(&code::call(0, 0, &[], &[])), (8, 5));
     // 7 of any function before 8 of any; the lower place of two 8s.
-    let both = changed(|r| {
-        r[18] = code::copy(0, 0);
-        r[22] = code::copy(0, 1);
+    let both = changed(|records| {
+        records[18] = code::copy(0, 0);
+        records[22] = code::copy(0, 1);
     });
     assert_eq!(both, (7, 22));
-    let two = changed(|r| {
-        r[18] = code::copy(0, 0);
-        r[23] = code::copy(0, 0);
+    let two = changed(|records| {
+        records[18] = code::copy(0, 0);
+        records[23] = code::copy(0, 0);
     });
     assert_eq!(two, (8, 18));
 }

@@ -115,24 +115,24 @@ fn the_base_is_laid_out_as_said() {
 #[test]
 fn status_result_and_output_count() {
     for status in [2, 30, 40, 255] {
-        refused(|s| s[STATUS] = status);
+        refused(|state| state[STATUS] = status);
     }
     for status in 31..=39 {
-        passes(|s| s[STATUS] = status);
+        passes(|state| state[STATUS] = status);
     }
-    refused(|s| s[RESULT] = 1);
-    refused(|s| s[OUTPUT_COUNT + 1] = 17);
-    refused(|s| (s[OUTPUT_COUNT], s[OUTPUT_COUNT + 1]) = (1, 16));
-    passes(|s| s[OUTPUT_COUNT + 1] = 16);
+    refused(|state| state[RESULT] = 1);
+    refused(|state| state[OUTPUT_COUNT + 1] = 17);
+    refused(|state| (state[OUTPUT_COUNT], state[OUTPUT_COUNT + 1]) = (1, 16));
+    passes(|state| state[OUTPUT_COUNT + 1] = 16);
 }
 
 #[test]
 fn frame_count() {
-    refused(|s| s[FRAMES] = 0);
-    refused(|s| s[FRAMES] = 3);
-    refused(|s| s[FRAMES] = 17);
+    refused(|state| state[FRAMES] = 0);
+    refused(|state| state[FRAMES] = 3);
+    refused(|state| state[FRAMES] = 17);
     // Ended with frames.
-    refused(|s| s[STATUS] = 1);
+    refused(|state| state[STATUS] = 1);
 }
 
 #[test]
@@ -145,41 +145,41 @@ fn ended_states() {
         session.test()
     };
     assert_eq!(ended(&|_| ())[0], host::GOOD);
-    assert_eq!(ended(&|s| word(s, RESULT, u32::MAX))[0], host::GOOD);
-    assert_eq!(ended(&|s| s[PAGES..].fill(9))[0], host::GOOD);
-    assert_eq!(ended(&|s| s[OWNERS + 1] = 1)[1], 21);
-    assert_eq!(ended(&|s| s[MARKS + 32] = 1)[1], 21);
-    assert_eq!(ended(&|s| s[STATUS] = 0)[1], 21);
-    assert_eq!(ended(&|s| s[FRAME_0] = 1)[1], 21);
+    assert_eq!(ended(&|state| word(state, RESULT, u32::MAX))[0], host::GOOD);
+    assert_eq!(ended(&|state| state[PAGES..].fill(9))[0], host::GOOD);
+    assert_eq!(ended(&|state| state[OWNERS + 1] = 1)[1], 21);
+    assert_eq!(ended(&|state| state[MARKS + 32] = 1)[1], 21);
+    assert_eq!(ended(&|state| state[STATUS] = 0)[1], 21);
+    assert_eq!(ended(&|state| state[FRAME_0] = 1)[1], 21);
 }
 
 #[test]
 fn functions_and_instructions() {
-    refused(|s| s[FRAME_1 + FUNCTION] = 2);
-    refused(|s| s[FRAME_1 + FUNCTION] = 0);
-    refused(|s| s[FRAME_0 + FUNCTION] = 1);
-    refused(|s| s[FRAME_1 + INSTRUCTION] = 5);
-    refused(|s| s[FRAME_1 + INSTRUCTION + 1] = 1);
-    passes(|s| s[FRAME_1 + INSTRUCTION] = 4);
+    refused(|state| state[FRAME_1 + FUNCTION] = 2);
+    refused(|state| state[FRAME_1 + FUNCTION] = 0);
+    refused(|state| state[FRAME_0 + FUNCTION] = 1);
+    refused(|state| state[FRAME_1 + INSTRUCTION] = 5);
+    refused(|state| state[FRAME_1 + INSTRUCTION + 1] = 1);
+    passes(|state| state[FRAME_1 + INSTRUCTION] = 4);
     // The lower frame stands at a call of the upper's function: at either of two, at no other.
-    passes(|s| s[FRAME_0 + INSTRUCTION] = 3);
-    refused(|s| s[FRAME_0 + INSTRUCTION] = 1);
-    refused(|s| s[FRAME_0 + INSTRUCTION] = 4);
+    passes(|state| state[FRAME_0 + INSTRUCTION] = 3);
+    refused(|state| state[FRAME_0 + INSTRUCTION] = 1);
+    refused(|state| state[FRAME_0 + INSTRUCTION] = 4);
 }
 
 #[test]
 fn maps() {
     // The call's regions through the caller's map.
-    refused(|s| s[FRAME_1 + MAP] = 0);
-    refused(|s| s[FRAME_1 + MAP + 1] = 1);
+    refused(|state| state[FRAME_1 + MAP] = 0);
+    refused(|state| state[FRAME_1 + MAP + 1] = 1);
     // Local regions all different, also from those below.
-    refused(|s| s[FRAME_1 + MAP + 2] = 0);
-    refused(|s| s[FRAME_1 + MAP + 2] = 1);
+    refused(|state| state[FRAME_1 + MAP + 2] = 0);
+    refused(|state| state[FRAME_1 + MAP + 2] = 1);
     // All else agrees with the map, so only the number breaks the test.
     for (region, allowed) in [(2, true), (5, true), (111, true), (112, false), (255, false)] {
-        let change = |s: &mut [u8]| {
-            s[FRAME_1 + MAP + 2] = region;
-            s[OWNERS + 3] = region.wrapping_add(1);
+        let change = |state: &mut [u8]| {
+            state[FRAME_1 + MAP + 2] = region;
+            state[OWNERS + 3] = region.wrapping_add(1);
         };
         if allowed {
             passes(change);
@@ -220,52 +220,52 @@ fn the_lowest_numbers_not_live_are_taken() {
 
 #[test]
 fn owners_and_marks() {
-    refused(|s| s[OWNERS] = 1);
+    refused(|state| state[OWNERS] = 1);
     // Not live, and out of range.
-    refused(|s| s[OWNERS + 4] = 4);
-    refused(|s| s[OWNERS + 4] = 113);
-    refused(|s| s[OWNERS + 4] = 255);
+    refused(|state| state[OWNERS + 4] = 4);
+    refused(|state| state[OWNERS + 4] = 113);
+    refused(|state| state[OWNERS + 4] = 255);
     // An owned page more, used or not.
-    passes(|s| s[OWNERS + 40] = 1);
-    passes(|s| (s[OWNERS + 40], s[MARKS + 32 * 40 + 7]) = (1, 128));
+    passes(|state| state[OWNERS + 40] = 1);
+    passes(|state| (state[OWNERS + 40], state[MARKS + 32 * 40 + 7]) = (1, 128));
     // Marks of unowned pages and of page 0; a page that loses its owner but not its marks.
-    refused(|s| s[MARKS + 32 * 4] = 1);
-    refused(|s| s[MARKS] = 1);
-    refused(|s| s[OWNERS + 3] = 0);
+    refused(|state| state[MARKS + 32 * 4] = 1);
+    refused(|state| state[MARKS] = 1);
+    refused(|state| state[OWNERS + 3] = 0);
     // i32 has 64 places, the object of 9 bytes 28: marks beyond are spare.
-    passes(|s| s[MARKS + 32 + 7] = 128);
-    refused(|s| s[MARKS + 32 + 8] = 1);
-    passes(|s| s[MARKS + 64 + 3] = 8);
-    refused(|s| s[MARKS + 64 + 3] = 16);
-    refused(|s| s[MARKS + 64 + 31] = 128);
+    passes(|state| state[MARKS + 32 + 7] = 128);
+    refused(|state| state[MARKS + 32 + 8] = 1);
+    passes(|state| state[MARKS + 64 + 3] = 8);
+    refused(|state| state[MARKS + 64 + 3] = 16);
+    refused(|state| state[MARKS + 64 + 31] = 128);
     // No mark at all: all objects free, their values still values.
-    passes(|s| s[MARKS..FRAME_0].fill(0));
+    passes(|state| state[MARKS..FRAME_0].fill(0));
 }
 
 #[test]
 fn registers() {
     // Integers below 256 to their width.
-    passes(|s| word(s, FRAME_0, u32::MAX));
-    passes(|s| word(s, FRAME_0 + 12, 255));
-    refused(|s| word(s, FRAME_0 + 12, 256));
-    refused(|s| word(s, FRAME_0 + 12, 0x0100_0000));
-    passes(|s| word(s, FRAME_0 + 16, 65_535));
-    refused(|s| word(s, FRAME_0 + 16, 65_536));
+    passes(|state| word(state, FRAME_0, u32::MAX));
+    passes(|state| word(state, FRAME_0 + 12, 255));
+    refused(|state| word(state, FRAME_0 + 12, 256));
+    refused(|state| word(state, FRAME_0 + 12, 0x0100_0000));
+    passes(|state| word(state, FRAME_0 + 16, 65_535));
+    refused(|state| word(state, FRAME_0 + 16, 65_536));
     // Pointers: zero, used and free objects; no other place, page or region.
     for address in [0, 256, 260, 508] {
-        passes(|s| word(s, FRAME_0 + 4, address));
-        passes(|s| word(s, FRAME_1 + 4, address));
+        passes(|state| word(state, FRAME_0 + 4, address));
+        passes(|state| word(state, FRAME_1 + 4, address));
     }
     for address in [1, 4, 255, 257, 258, 512, 768, 1024, 16_384, 65_536 + 256, u32::MAX] {
-        refused(|s| word(s, FRAME_0 + 4, address));
-        refused(|s| word(s, FRAME_1 + 4, address));
+        refused(|state| word(state, FRAME_0 + 4, address));
+        refused(|state| word(state, FRAME_1 + 4, address));
     }
     for address in [512, 521, 512 + 27 * 9] {
-        passes(|s| word(s, FRAME_1 + 16, address));
+        passes(|state| word(state, FRAME_1 + 16, address));
     }
     // Inside an object, and behind the last whole one of its page.
     for address in [516, 517, 513, 512 + 28 * 9, 256] {
-        refused(|s| word(s, FRAME_1 + 16, address));
+        refused(|state| word(state, FRAME_1 + 16, address));
     }
 }
 
@@ -274,22 +274,22 @@ fn values_in_pages() {
     // The pointer of the first object is at its byte 5, of the 28th too, free or not.
     for place in [0, 1, 27] {
         let at = PAGES + 512 + 9 * place + 5;
-        passes(|s| word(s, at, 260));
-        refused(|s| word(s, at, 262));
-        refused(|s| word(s, at, 512));
+        passes(|state| word(state, at, 260));
+        refused(|state| word(state, at, 262));
+        refused(|state| word(state, at, 512));
     }
     // The cells of page 3 point to whole objects of page 2.
-    passes(|s| word(s, PAGES + 768 + 252, 521));
-    refused(|s| word(s, PAGES + 768 + 252, 522));
+    passes(|state| word(state, PAGES + 768 + 252, 521));
+    refused(|state| word(state, PAGES + 768 + 252, 522));
     // Integers and page tails may hold anything.
-    passes(|s| s[PAGES + 256..PAGES + 512].fill(255));
-    passes(|s| s[PAGES + 512..PAGES + 517].fill(255));
-    passes(|s| s[PAGES + 512 + 252..PAGES + 768].fill(255));
+    passes(|state| state[PAGES + 256..PAGES + 512].fill(255));
+    passes(|state| state[PAGES + 512..PAGES + 517].fill(255));
+    passes(|state| state[PAGES + 512 + 252..PAGES + 768].fill(255));
     // And so may page 0 and unowned pages.
-    passes(|s| s[PAGES..PAGES + 256].fill(255));
-    passes(|s| s[PAGES + 1024..].fill(255));
+    passes(|state| state[PAGES..PAGES + 256].fill(255));
+    passes(|state| state[PAGES + 1024..].fill(255));
     // The reader finds no object there.
-    let session = with(|s| s[PAGES..PAGES + 256].fill(255));
+    let session = with(|state| state[PAGES..PAGES + 256].fill(255));
     assert_eq!(session.object(0), None);
     assert_eq!(session.object(1024), None);
     assert_eq!(session.object(512 + 252), None);
@@ -300,20 +300,20 @@ fn values_in_pages() {
 #[test]
 fn spare_bytes() {
     for at in [8, 63, 4224, 8191] {
-        refused(|s| s[at] = 1);
+        refused(|state| state[at] = 1);
     }
     for spare in FRAME_SPARE..128 {
-        refused(|s| s[FRAME_0 + spare] = 1);
-        refused(|s| s[FRAME_1 + spare] = 1);
+        refused(|state| state[FRAME_0 + spare] = 1);
+        refused(|state| state[FRAME_1 + spare] = 1);
     }
     // Registers and map entries that the function does not have, and frames not in use.
-    refused(|s| s[FRAME_0 + 20] = 1);
-    refused(|s| s[FRAME_0 + 111] = 1);
-    refused(|s| s[FRAME_0 + MAP + 2] = 1);
-    refused(|s| s[FRAME_1 + MAP + 6] = 1);
-    refused(|s| s[FRAME_2] = 1);
-    refused(|s| s[FRAME_2 + FUNCTION] = 1);
-    refused(|s| s[4223] = 1);
+    refused(|state| state[FRAME_0 + 20] = 1);
+    refused(|state| state[FRAME_0 + 111] = 1);
+    refused(|state| state[FRAME_0 + MAP + 2] = 1);
+    refused(|state| state[FRAME_1 + MAP + 6] = 1);
+    refused(|state| state[FRAME_2] = 1);
+    refused(|state| state[FRAME_2 + FUNCTION] = 1);
+    refused(|state| state[4223] = 1);
 }
 
 #[test]

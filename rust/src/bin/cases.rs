@@ -2,7 +2,8 @@
 //! `cases [SEED [COUNT]]`, every second one damaged.
 
 use reference::corpus::write;
-use reference::generator::{damage, draw};
+use reference::damage::damage;
+use reference::generator::draw;
 use reference::prng::Prng;
 
 fn main() {

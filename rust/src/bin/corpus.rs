@@ -1,5 +1,5 @@
-//! Runs the files of cases in a folder: `corpus [FOLDER]`, else the folder that the environment
-//! variable CORPUS names, else `../../shared/corpus`, seen from here beside the repository.
+//! Runs the files of cases in a folder: the one that is named on the command line, else by the
+//! environment variable CORPUS, else `shared/corpus` beside the repository.
 
 use reference::corpus::run_folder;
 use std::path::PathBuf;

@@ -1,4 +1,5 @@
-//! A module with its buffers, as the tests of the machine and of the state run it.
+//! A module with its buffers, as the tests of the machine and of the state run it, and the terms
+//! that their modules begin with.
 
 use reference::builder::{FunctionBuilder, ModuleBuilder};
 use reference::file::Record;
