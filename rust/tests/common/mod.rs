@@ -1,5 +1,6 @@
 //! A module with its buffers, as the tests of the machine and of the state run it, and the terms
-//! that their modules begin with.
+//! that their modules begin with. Each test file uses a part of it.
+#![allow(dead_code)]
 
 use reference::builder::{FunctionBuilder, ModuleBuilder};
 use reference::file::Record;
@@ -37,7 +38,6 @@ pub struct Session {
     pub output: Vec<u8>,
 }
 
-#[allow(dead_code)]
 impl Session {
     pub fn open(file: Vec<u8>, arguments: &[u32]) -> Session {
         let mut state = vec![0xee; STATE_BYTES];
@@ -79,7 +79,6 @@ impl Session {
 }
 
 /// Opens and runs to the end a module of function 0 alone.
-#[allow(dead_code)]
 pub fn run(module: &ModuleBuilder, function: &FunctionBuilder) -> Answer {
     let mut module = module.clone();
     module.function(function);
