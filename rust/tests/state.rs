@@ -168,6 +168,29 @@ fn functions_and_instructions() {
 }
 
 #[test]
+fn functions_that_are_alike() {
+    // Three functions with one shape; function 0 calls function 1. Only the number tells them
+    // apart: the lowest frame is of function 0, the upper one of the function called.
+    let mut module = integers();
+    for _ in 0..3 {
+        let mut function = main_function(&[], &[I32], &code::call(0, 1, &[], &[]));
+        function.code.push(code::ret(0));
+        module.function(&function);
+    }
+    let mut session = Session::open(module.file(), &[]);
+    for lowest in 0..3 {
+        session.state[FRAME_0 + FUNCTION] = lowest;
+        assert_eq!(session.passes(), lowest == 0);
+    }
+    session.state[FRAME_0 + FUNCTION] = 0;
+    assert_eq!(session.go(1), [host::STILL_RUNNING, 0, 1, 0]);
+    for called in 0..3 {
+        session.state[FRAME_1 + FUNCTION] = called;
+        assert_eq!(session.passes(), called == 1);
+    }
+}
+
+#[test]
 fn maps() {
     // The call's regions through the caller's map.
     refused(|state| state[FRAME_1 + MAP] = 0);
