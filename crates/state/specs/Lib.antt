@@ -1,0 +1,4 @@
+-- The laws of the state: what its accessors give after each write and after a whole effect.
+pub mod Update
+pub mod Apply
+pub mod Areas
