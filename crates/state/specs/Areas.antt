@@ -339,4 +339,3 @@ module _ (t s : Bytes) where
       (frames-agree t s (λ i a b. h i (inl (omega arith)))) (outputCount-agree t s (λ i a b. h i (inl (omega arith))))
       (f .fn) (f .pc) (f .reg) (f .map)
       (owners-same t s (λ i a b. h i (inl (omega arith)))) (marks-same t s (λ i a b. h i (inl (omega arith)))) refl
-

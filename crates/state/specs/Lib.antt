@@ -2,3 +2,5 @@
 pub mod Update
 pub mod Apply
 pub mod Areas
+pub mod Frames
+pub mod Puts
