@@ -4,3 +4,5 @@ pub mod Apply
 pub mod Areas
 pub mod Frames
 pub mod Puts
+pub mod Closing
+pub mod Effects
