@@ -6,3 +6,5 @@ pub mod Frames
 pub mod Puts
 pub mod Closing
 pub mod Effects
+pub mod Whole
+pub mod Independence
