@@ -11,7 +11,6 @@ use lib.ListN.{length}
 use Rattle.words.specs.Bytes.{Bytes, AllBytes, byteAt, little, splice}
 use Rattle.words.specs.ByteLaws.{length-splice, length-little, getD-splice-in, getD-splice-out, byte-past}
 use Rattle.words.specs.Bits.{withBit}
-use Rattle.words.specs.Choose.{cond-lt}
 use Rattle.rules.specs.Limits.{pages, pageBytes, memoryBytes, stateBytes, memoryAt}
 use Rattle.rules.specs.Decision.{decTyped}
 use Rattle.rules.specs.Module.{Instruction, constant, copy, operate, zeroExtend, signExtend, address, check, field, index, load, store, new, free, input, output, jump, branch, call, return, Function, Module}
@@ -24,7 +23,7 @@ use Rattle.state.specs.Apply.{apply}
 use Rattle.state.specs.Areas.{view-eq, memory-agree, stack-same, owners-same, marks-same, status-agree, frames-agree, outputCount-agree, result-agree, withMemory}
 use Rattle.state.specs.Puts.{after}
 use Rattle.state.specs.Effects.{Bounded, view-apply}
-use Rattle.state.specs.Closing.{length-written}
+use Rattle.state.specs.Reads.{memory-is}
 
 -- ---- what is decided
 
@@ -186,8 +185,8 @@ memory-kept m k (stop j) v i n = refl
 memory-kept m k stuck v i n = refl
 
 pub memory-byte : (s : Bytes) (i : ℕ) → i < memoryBytes → view s .memory i ≡ byteAt s (memoryPlace i)
-unfolding view memoryByte
-memory-byte s i l = cond-lt (byteAt s (memoryPlace i)) 0 l
+unfolding view
+memory-byte s i l = memory-is s l
 
 pub keeps-law : (m : Module) (s : Bytes) → length s ≡ stateBytes → AllBytes s → (k : ℕ) (e : Effect) → Bounded (view s) k e
     → (i : ℕ) → i < memoryBytes → ¬ Changes e i → byteAt (applyState m k e s) (memoryPlace i) ≡ byteAt s (memoryPlace i)
