@@ -10,3 +10,4 @@ pub mod Effects
 pub mod Whole
 pub mod Independence
 pub mod Marks
+pub mod Fields
