@@ -7,7 +7,9 @@ ghost use Rattle.words.specs.Widths.{widthOf};
 ghost use Rattle.rules.specs.Limits.{stateBytes, pages, pageBytes, memoryBytes, mostFrames, mostRegisters, mostRegions};
 ghost use Rattle.rules.specs.State.{view, frameFunction, frameInstruction, frameRegister, frameMap, pageOwner, pageMark, memoryByte, memoryNumber, putStatus, putFrames, putOutputCount, putResult, putOwner, putMark, clearMarks, clearPage, putMemory, putRegister, putInstruction, clearFrame};
 ghost use Rattle.state.specs.Puts.{after};
+use crate::LiveRegion;
 use crate::Machine;
+use crate::RegionVariable;
 use crate::places::frame_place;
 use crate::places::function_place;
 use crate::places::instruction_place;
@@ -75,12 +77,13 @@ pub fn register(s: &[u8], k: u32, a: u32) -> u32
     word_at(s, register_place(k, a))
 }
 
-pub fn region_of(s: &[u8], k: u32, i: u32) -> u8
-    requires { ⌜ (length (now s) ≡ stateBytes) × ((k < mostFrames) × (i < mostRegions)) ⌝ }
-    ensures { λ r. ⌜ r ≡ frameMap (now (s .entry)) k i ⌝ }
+// The live region to which frame k's map leads from a region variable.
+pub fn region_of(s: &[u8], k: u32, variable: RegionVariable) -> LiveRegion
+    requires { ⌜ (length (now s) ≡ stateBytes) × ((k < mostFrames) × (variable .0 < mostRegions)) ⌝ }
+    ensures { λ r. ⌜ r .0 ≡ frameMap (now (s .entry)) k (variable .0) ⌝ }
 {
-    let j = map_place(k, i);
-    s[j]
+    let i = map_place(k, variable.0);
+    LiveRegion(s[i])
 }
 
 pub fn owner(s: &[u8], p: u32) -> u8

@@ -9,6 +9,12 @@ pub mod total;
 
 use words::clear;
 
+// A region variable, as the code writes it.
+pub struct RegionVariable(pub u32);
+
+// The number of a live region of the machine. Only a frame's map leads from the one to the other (`region_of`).
+pub struct LiveRegion(pub u8);
+
 // The limits of the machine and the layout of its state. (The definitions' own stand in rules' Limits.)
 pub struct Machine {}
 
