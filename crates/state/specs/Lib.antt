@@ -11,3 +11,5 @@ pub mod Whole
 pub mod Independence
 pub mod Marks
 pub mod Fields
+pub mod Pages
+pub mod Opening
