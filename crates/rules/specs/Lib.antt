@@ -25,3 +25,6 @@ pub mod Run
 pub mod StateTest
 pub mod Host
 pub mod Claim
+-- small cases of the machine, by computation
+pub mod CaseStates
+pub mod CasesStep
