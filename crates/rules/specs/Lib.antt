@@ -28,3 +28,4 @@ pub mod Claim
 -- small cases of the machine, by computation
 pub mod CaseStates
 pub mod CasesStep
+pub mod CasesMachine
