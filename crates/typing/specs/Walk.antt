@@ -348,9 +348,6 @@ good-next : (f : Bytes) (t s : Scan) (r : ℕ) → Good f s r → Next f t (s .w
 unfolding nextScan
 good-next f t s r g n = go (next (s .walk) (recordOf f r) r) (n .tables) (n .place)
   where
-    w : Walk
-    w = s .walk
-
     -- no function is opened
     stays : (v : Walk) → Place f v (suc r) (v .phase) → v .terms ≤ mostTerms → v .names ≤ mostStructs
         → ((i : ℕ) → i < v .terms → TermRecord (recordOf f i)) → ((N : ℕ) → N < v .names → 1 ≤ recordOf f (structStart (v .terms) N) .b)
@@ -384,9 +381,6 @@ good-next f t s r g n = go (next (s .walk) (recordOf f r) r) (n .tables) (n .pla
     go v (name et en e d at fit) p = stays v p (omega (arith, g .terms)) (omega (arith, ltb-true (s .walk .names) mostStructs room))
         (λ i h. g .termRecords i (omega arith)) (λ N h. rw et (new-name N h (ℕ-discrete N (s .walk .names)))) e d
       where
-        x : Record
-        x = recordOf f r
-
         room : ltb (s .walk .names) mostStructs ≡ true
         room = unfold nameFits in left (ltb (s .walk .names) mostStructs) (eqb (recordOf f r .kind) kindName)
             (left (ltb (s .walk .names) mostStructs && eqb (recordOf f r .kind) kindName) _ fit)
