@@ -266,7 +266,7 @@ module _ (f : Bytes) (t : Scan) (w : Walk) (r : ℕ) where
     where
       go : (z : Bool) → leb (w .left) mostEntries ≡ z → Kept f w (cond z (toCode w) (to w Registers (w .left - mostEntries))) (suc r)
       go true q = to-code f w h (suc r)
-          (let n : (recordOf f (w .head) .c + 6) / 7 ≡ suc k = omega (arith, leb-true (w .left) mostEntries q, h .registers) in
+          (let n : (recordOf f (w .head) .c + (mostEntries - 1)) / mostEntries ≡ suc k = omega (arith, leb-true (w .left) mostEntries q, h .registers) in
           omega arith)
       go false q = record {
         terms = refl;
