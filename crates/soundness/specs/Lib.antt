@@ -5,3 +5,4 @@ pub mod Apply
 pub mod Facts
 pub mod Good
 pub mod Preserve
+pub mod Spare
