@@ -6,3 +6,4 @@ pub mod Facts
 pub mod Good
 pub mod Preserve
 pub mod Spare
+pub mod Safe
