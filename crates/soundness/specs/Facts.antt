@@ -6,7 +6,7 @@ use Rattle.rules.specs.Types.{variable, Tree, int, ptr, Uses, Primitive}
 use Rattle.rules.specs.Module.{Module, Function, regions, Instruction, constant, copy, operate, zeroExtend, signExtend, address, check, field, index, load, store, new, free, input, output, jump, branch, call, return}
 use Rattle.rules.specs.Typing.{Typed}
 use Rattle.rules.specs.WellTyped.{Ranges, EntryOk}
-use Rattle.soundness.specs.Needs.{TreeOk, TypesOk}
+use Rattle.layout.specs.TypesOk.{TypesOk}
 
 -- Control goes on to the next instruction after all kinds but 31 and 34. (Refusal 8 lets only these two stand last.)
 abbrev pub GoesOn : Instruction → ℕ → ℕ → Type 0
@@ -33,11 +33,8 @@ GoesOn (return a) i n = Unit {0}
 pub record FunctionFacts (m : Module) (f : Function) : Type 0 where
   pub ranges : Ranges f
   pub primitive : (a : ℕ) → a < f .registers → Primitive (f .registerType a)
-  pub registerOk : (a : ℕ) → a < f .registers → TreeOk m (f .registerType a)
-  pub targetOk : (a : ℕ) {T : Tree variable} {r : ℕ} → a < f .registers → f .registerType a ≡ ptr T (record { number = r }) → TreeOk m T
   pub registerScope : (a : ℕ) → a < f .registers → Uses (regions f) (f .registerType a)
   pub paramScope : (a : ℕ) → a < f .params → Uses (f .regionParams) (f .registerType a)
-  pub regionOk : (i : ℕ) → i < regions f → TreeOk m (f .regionType i)
   pub regionScope : (i : ℕ) → i < regions f → Uses (regions f) (f .regionType i)
   pub regionParamScope : (i : ℕ) → i < f .regionParams → Uses (f .regionParams) (f .regionType i)
   pub returns : Uses (f .regionParams) (f .result)

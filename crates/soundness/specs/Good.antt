@@ -22,7 +22,8 @@ use Rattle.rules.specs.Heap.{close, Local, Live, localList, liveList, look, typ
 use Rattle.rules.specs.Step.{StandsAtCall}
 use Rattle.rules.specs.StateTest.{Chained, FramesOk}
 use Rattle.soundness.specs.Fresh.{In, in-head, in-tail, in-left, in-right}
-use Rattle.soundness.specs.Needs.{TreeOk, TypesOk, sub-agree, sub-sub, has-close, Slot, Outer}
+use Rattle.layout.specs.Types.{close-agree, close-sub, Outer, outer-close}
+use Rattle.soundness.specs.Needs.{has-close, Slot}
 use Rattle.soundness.specs.Facts.{FunctionFacts, ModuleFacts}
 
 -- The state test for a state with n frames, but for the status and the spare bytes.
@@ -86,14 +87,6 @@ pub record CallRule (m : Module) (f : Function) (a g : ℕ) (rs : List Variable)
 
 pub call-rule : {m : Module} {f : Function} {a g : ℕ} {rs : List Variable} {xs : List ℕ} → Typed m f (call a g rs xs) → CallRule m f a g rs xs
 call-rule (t-call k s r x t) = record { known = k; scope = s; regionTypes = r; arguments = x; result = t }
-
--- which regions a type's outermost pointer can lead to
-pub outer-close : (P : ℕ → Type 0) (μ : ℕ → ℕ) (n : ℕ) (T : Tree variable) → Uses n T → ((j : ℕ) → j < n → P (μ j)) → Outer P (close μ T)
-unfolding sub
-outer-close P μ n (int w) u f = tt
-outer-close P μ n (ptr T r) (in-ptr h u) f = f (r .number) h
-outer-close P μ n (arr k T) u f = tt
-outer-close P μ n (struct N rs) u f = tt
 
 module _ (m : Module) (ok : ModuleFacts m) (fn pc : ℕ → ℕ) (map : ℕ → ℕ → ℕ) (n : ℕ) (s : FramesOk m fn pc map n) where
   pub frame-facts : (k : ℕ) → k < n → FunctionFacts m (m .function (fn k))
@@ -161,9 +154,8 @@ module _ (m : Module) (ok : ModuleFacts m) (fn pc : ℕ → ℕ) (map : ℕ → 
       → close (map k) (sub (arg (s .chain k h .caller .site .regions)) T) ≡ close (map (suc k)) T
   through-types k h T u =
       let rs = s .chain k h .caller .site .regions in
-      sub-sub (λ r. region (map k (r .number))) (arg rs) T
-      ∙ sym (sub-agree (m .function (fn (suc k)) .regionParams) (λ r. region (map (suc k) (r .number))) (λ r. region (map k (arg rs r .number))) T u
-      (λ i l. ap region (s .chain k h .through i l)))
+      close-sub (map k) rs T
+      ∙ sym (close-agree (m .function (fn (suc k)) .regionParams) (map (suc k)) (λ i. map k (arg rs (region i) .number)) T u (s .chain k h .through))
 
   -- so is that of each region in a map: types at a call are equal with the regions put in
   pub map-typed : (k i : ℕ) → k < n → i < regions (m .function (fn k)) → typeOf m fn map n (map k i) ≡ close (map k) (m .function (fn k) .regionType i)
@@ -198,7 +190,7 @@ module _ (m : Module) (ok : ModuleFacts m) (fn pc : ℕ → ℕ) (map : ℕ → 
       let inside : i < regions g = omega (arith, l .local .below) in
       let facts = frame-facts (l .frame) (l .below) in
       let e : typeOf m fn map n r ≡ close (map k) (g .regionType i) = ap (typeOf m fn map n) (sym (suc-inj (l .local .is))) ∙ map-typed k i (l .below) inside in
-      let c = has-close m (ok .types) (map k) (regions g) (g .regionType i) d q (facts .regionOk i inside) (facts .regionScope i inside)
+      let c = has-close m (ok .types) (map k) (regions g) (g .regionType i) d q (ok .types .regionTypes (fn k) i (s .known k (l .below)) inside) (facts .regionScope i inside)
       (subst (λ (T : Tree live). Has (flat m T .prims) d q) e h) in
       rw (c .2) (outer-close P (map k) (regions g) (c .0) (c .1) f)
 

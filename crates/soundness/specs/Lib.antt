@@ -1,7 +1,6 @@
 -- Demand 3: its theorem (Demand3), what follows for code (ForCode) and for the auditor (Audit).
 pub mod Fresh
 pub mod Needs
-pub mod Apply
 pub mod Facts
 pub mod Good
 pub mod Preserve

@@ -8,45 +8,11 @@ use Rattle.rules.specs.Types.{RegionKind, variable, live, Region, Variable, Liv
 use Rattle.rules.specs.Module.{Module, Function, regions, Instruction, constant, copy, operate, zeroExtend, signExtend, address, check, field, index, load, store, new, free, input, output, jump, branch, call, return}
 use Rattle.rules.specs.Flat.{Has, flat, size, Run, Same, distance, subLayout}
 use Rattle.rules.specs.Heap.{close, HeapTyping, Stands, Value}
-
--- a type term that is right at every depth
-pub record TreeOk (m : Module) (T : Tree variable) : Type 0 where
-  pub todo : ℕ
-
-pub record TypesOk (m : Module) : Type 0 where
-  pub todo : ℕ
-
-module _ {j k l : RegionKind} where
-  pub sub-sub : (σ : Region k → Region l) (τ : Region j → Region k) (T : Tree j) → sub σ (sub τ T) ≡ sub (λ r. σ (τ r)) T
-  sub-sub = ?
-
-module _ {k : RegionKind} where
-  pub sub-agree : (n : ℕ) (σ τ : Variable → Region k) (T : Tree variable) → Uses n T → ((i : ℕ) → i < n → σ (region i) ≡ τ (region i)) → sub σ T ≡ sub τ T
-  sub-agree = ?
-
-  pub sub-width : (σ : Variable → Region k) (T : Tree variable) → width (sub σ T) ≡ width T
-  sub-width = ?
-
-  pub sub-primitive : (σ : Variable → Region k) (T : Tree variable) → Primitive T → Primitive (sub σ T)
-  sub-primitive = ?
-
-  pub size-sub : (m : Module) (σ : Variable → Region k) (T : Tree variable) → size m (sub σ T) ≡ size m T
-  size-sub = ?
-
-  pub size-primitive : (m : Module) (T : Tree k) → Primitive T → size m T ≡ width T
-  size-primitive = ?
-
-  pub flat-primitive : (m : Module) (T : Tree k) → Primitive T → Has (flat m T .prims) 0 T
-  flat-primitive = ?
-
-  pub has-inside : (m : Module) (T q : Tree k) (d : ℕ) → Has (flat m T .prims) d q → d + width q ≤ size m T
-  has-inside = ?
-
-  pub has-primitive : (m : Module) (T q : Tree k) (d : ℕ) → Has (flat m T .prims) d q → Primitive q
-  has-primitive = ?
+use Rattle.layout.specs.TypesOk.{GoodTree, TypesOk}
+use Rattle.layout.specs.Types.{Outer}
 
 -- a primitive of a closed type is one of the written type, closed
-pub has-close : (m : Module) → TypesOk m → (μ : ℕ → ℕ) (n : ℕ) (T : Tree variable) (d : ℕ) (q : Tree live) → TreeOk m T → Uses n T
+pub has-close : (m : Module) → TypesOk m → (μ : ℕ → ℕ) (n : ℕ) (T : Tree variable) (d : ℕ) (q : Tree live) → GoodTree m T → Uses n T
     → Has (flat m (close μ T) .prims) d q → (c : Tree variable) × Uses n c × (q ≡ close μ c)
 has-close = ?
 
@@ -66,12 +32,6 @@ pub record Slot (m : Module) (W : HeapTyping) (x : ℕ) (q : Tree live) : Type 0
 pub record Kept (before after : HeapTyping) (r : ℕ) : Type 0 where
   pub type : after .type r ≡ before .type r
   pub pages : (p : ℕ) → before .owner p ≡ suc r → after .owner p ≡ suc r
-
-abbrev pub Outer : (ℕ → Type 0) → Tree live → Type 0
-Outer P (int n) = Unit {0}
-Outer P (ptr T r) = P (r .number)
-Outer P (arr n T) = Unit {0}
-Outer P (struct N rs) = Unit {0}
 
 pub value-keep : (m : Module) (before after : HeapTyping) (T : Tree live) (x : ℕ) → Outer (Kept before after) T → Value m before T x → Value m after T x
 value-keep = ?
@@ -100,19 +60,19 @@ pub record SlotAt (m : Module) (W : HeapTyping) (r x : ℕ) (q : Tree live) : Ty
 pub stands-slot : (m : Module) (W : HeapTyping) (q : Tree live) (r x : ℕ) → Primitive q → Stands m W q r x → SlotAt m W r x q
 stands-slot = ?
 
-pub tree-size : (m : Module) (T : Tree variable) → TypesOk m → TreeOk m T → (0 < size m T) × (size m T ≤ sizeLimit)
+pub tree-size : (m : Module) (T : Tree variable) → TypesOk m → GoodTree m T → (0 < size m T) × (size m T ≤ sizeLimit)
 tree-size = ?
 
 module _ (m : Module) (types : TypesOk m) (W : HeapTyping) (μ : ℕ → ℕ) where
-  pub stands-field : (T U : Tree variable) (r x d : ℕ) → TreeOk m T → TreeOk m U → Run (flat m T) d (flat m U) → Stands m W (close μ T) r x
+  pub stands-field : (T U : Tree variable) (r x d : ℕ) → GoodTree m T → GoodTree m U → Run (flat m T) d (flat m U) → Stands m W (close μ T) r x
       → Stands m W (close μ U) r (x + distance (flat m T) d)
   stands-field = ?
 
-  pub stands-element : (T : Tree variable) (n r x i : ℕ) → TreeOk m (arr n T) → TreeOk m T → i < n → Stands m W (close μ (arr n T)) r x → Stands m W (close μ T) r (x + i * size m T)
+  pub stands-element : (T : Tree variable) (n r x i : ℕ) → GoodTree m (arr n T) → GoodTree m T → i < n → Stands m W (close μ (arr n T)) r x → Stands m W (close μ T) r (x + i * size m T)
   stands-element = ?
 
   -- the object at place j of a page of a region with type U, closed
-  pub stands-object : (T U : Tree variable) (r p j : ℕ) → TreeOk m T → TreeOk m U → Same (flat m T) (flat m U) → W .type r ≡ close μ U → p < pages → W .owner p ≡ suc r
+  pub stands-object : (T U : Tree variable) (r p j : ℕ) → GoodTree m T → GoodTree m U → Same (flat m T) (flat m U) → W .type r ≡ close μ U → p < pages → W .owner p ≡ suc r
       → size m U * suc j ≤ pageBytes → Stands m W (close μ T) r (pageBytes * p + size m U * j)
   stands-object = ?
 

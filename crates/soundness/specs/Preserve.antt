@@ -19,10 +19,20 @@ use Rattle.rules.specs.Heap.{close, Local, Live, decLocal, liveList, typeOf, He
 use Rattle.rules.specs.Step.{StandsAtCall, closes}
 use Rattle.rules.specs.StateTest.{Chained, FramesOk}
 use Rattle.soundness.specs.Fresh.{In}
-use Rattle.soundness.specs.Needs.{sub-agree, sub-sub, sub-primitive, has-inside, has-primitive, Slot, Kept, Outer, value-keep, value-zero, value-bound, SameSlot, ApartSlots, slots-apart}
-use Rattle.soundness.specs.Apply.{upd, upd-same, upd-other, upd-cases, upd2, upd2-cases, putBytes, clearBytes, number-put, number-put-apart, number-clear, number-clear-apart, wrote, moved, saved, marked, granted, counted, pushed, closed, closedOwner, closedMark, became}
+use Rattle.layout.specs.Types.{close-agree, close-sub, sub-prim, Outer, outer-close, outer-all}
+use Rattle.layout.specs.Flat.{flat-inside, flat-has-prim}
+use Rattle.soundness.specs.Needs.{Slot, Kept, value-keep, value-zero, value-bound, SameSlot, ApartSlots, slots-apart}
+use Rattle.state.specs.Update.{upd, upd-same, upd-other, upd-cases, upd2, stored, zeroed, memoryNumber-stored, memoryNumber-stored-apart, memoryNumber-zeroed, memoryNumber-zeroed-apart}
+use Rattle.state.specs.Apply.{wrote, moved, saved, marked, granted, pushed, closed, closedOwner, closedMark}
 use Rattle.soundness.specs.Facts.{FunctionFacts, ModuleFacts}
-use Rattle.soundness.specs.Good.{Good, typeOf-agree, typeOf-miss, CallRule, call-rule, map-live, fresh-map, outer-close, outer-page, live-in, live-more}
+use Rattle.soundness.specs.Good.{Good, typeOf-agree, typeOf-miss, CallRule, call-rule, map-live, fresh-map, outer-page, live-in, live-more}
+
+-- a function of two numbers changed at one place
+pub upd2-cases : (P : ℕ → Type 0) (f : ℕ → ℕ → ℕ) (k i x j l : ℕ) → (j ≡ k → l ≡ i → P x) → P (f j l) → P (upd2 f k i x j l)
+upd2-cases P f k i x j l same other =
+    upd-cases (λ (g : ℕ → ℕ). P (g l)) f k (upd (f k) i x) j
+    (λ e. upd-cases P (f k) i x l (λ d. same e d) (λ d. subst (λ (y : ℕ). P (f y l)) e other))
+    (λ e. other)
 
 -- ---- frames that agree below n
 
@@ -143,9 +153,9 @@ good-saved m v n x y q g s h = record {
 }
   where
     go : (z : ℕ) (t : Tree live) → Slot m (heapTyping m v n) z t → SameSlot x q z t ⊎ ApartSlots x q z t
-        → Value m (heapTyping m v n) t (memoryNumber (putBytes (v .memory) x (width q) y) z (width t))
-    go z t l (inl e) = rw (← (e .place), ← (e .tree), number-put (v .memory) x (width q) y (value-bound m (heapTyping m v n) q y h)) h
-    go z t l (inr e) = rw (number-put-apart (v .memory) x (width q) y z (width t) (e .gap)) (g .slots z t l)
+        → Value m (heapTyping m v n) t (memoryNumber (stored (v .memory) x (width q) y) z (width t))
+    go z t l (inl e) = rw (← (e .place), ← (e .tree), memoryNumber-stored (v .memory) x (width q) y (value-bound m (heapTyping m v n) q y h)) h
+    go z t l (inr e) = rw (memoryNumber-stored-apart (v .memory) x (width q) y z (width t) (e .gap)) (g .slots z t l)
 
 -- ---- 27 and 28: marks, and a new page
 
@@ -158,12 +168,6 @@ good-marked m v n p j b g h = record {
   registers = g .registers;
   slots = g .slots;
 }
-
-outer-all : (P : ℕ → Type 0) (q : Tree live) → ((r : ℕ) → P r) → Outer P q
-outer-all P (int n) f = tt
-outer-all P (ptr T r) f = f (r .number)
-outer-all P (arr n T) f = tt
-outer-all P (struct N rs) f = tt
 
 pub good-granted : (m : Module) (v : View) (n p r : ℕ) → Good m v n → 0 < p → v .owner p ≡ 0 → Live m (v .fn) (v .map) n (suc r) → Good m (granted p r v) n
 good-granted m v n p r g a e l = record {
@@ -188,13 +192,13 @@ good-granted m v n p r g a e l = record {
       pages = λ i h. upd-other (v .owner) p (suc r) i (λ d. let z : 0 ≡ suc s = sym e ∙ ap (v .owner) (sym d) ∙ h in omega arith) ∙ h;
     })
 
-    page : (x : ℕ) (q : Tree live) (s : Slot m after x q) → Dec (s .page ≡ p) → Value m after q (memoryNumber (clearBytes (v .memory) p) x (width q))
+    page : (x : ℕ) (q : Tree live) (s : Slot m after x q) → Dec (s .page ≡ p) → Value m after q (memoryNumber (zeroed (v .memory) p) x (width q))
     page x q s (yes d) =
         let T : Tree live = typeOf m (v .fn) (v .map) n (s .region) in
         let y : ℕ = size m T * s .place + s .distance in
         let at : x ≡ pageBytes * p + y = rw (← d) (s .address) in
-        rw (at, number-clear (v .memory) p y (width q) (omega (arith, has-inside m T q (s .distance) (s .has), s .fits)))
-        (value-zero m after q (has-primitive m T q (s .distance) (s .has)))
+        rw (at, memoryNumber-zeroed (v .memory) p y (width q) (omega (arith, flat-inside m T (s .has), s .fits)))
+        (value-zero m after q (flat-has-prim m T (s .has)))
     page x q s (no d) =
         let T : Tree live = typeOf m (v .fn) (v .map) n (s .region) in
         let y : ℕ = size m T * s .place + s .distance in
@@ -210,8 +214,8 @@ good-granted m v n p r g a e l = record {
           has = s .has;
           address = s .address;
         } in
-        let same : memoryNumber (clearBytes (v .memory) p) x (width q) ≡ memoryNumber (v .memory) x (width q) =
-        rw at (number-clear-apart (v .memory) p (s .page) y (width q) d (omega (arith, has-inside m T q (s .distance) (s .has), s .fits))) in
+        let same : memoryNumber (zeroed (v .memory) p) x (width q) ≡ memoryNumber (v .memory) x (width q) =
+        rw at (memoryNumber-zeroed-apart (v .memory) p (s .page) y (width q) d (omega (arith, flat-inside m T (s .has), s .fits))) in
         rw same (value-keep m before after q (memoryNumber (v .memory) x (width q)) (kept q) (g .slots x q old))
 
 -- ---- a slot under another heap typing that has the same type for its region
@@ -250,7 +254,6 @@ module _ (m : Module) (ok : ModuleFacts m) (v : View) (k : ℕ) (g : Good m v (s
 
   -- a region that is not closed keeps its type and its pages
   pub open-kept : (r : ℕ) → ¬ Local (m .function (v .fn k)) (v .map k) (suc r) → Kept (heapTyping m v (suc k)) (heapTyping m (closed m k v) k) r
-  unfolding closedOwner
   open-kept r n = record {
     type = typeOf-agree m (upd (v .fn) k 0) (v .fn) (upd (v .map) k (λ _. 0)) (v .map) k low-fn low-map r ∙ sym (typeOf-miss m (v .fn) (v .map) k r n);
     pages = λ p e. cond-split (λ (x : ℕ). x ≡ suc r) (closes m v k p) 0 (v .owner p)
@@ -259,7 +262,6 @@ module _ (m : Module) (ok : ModuleFacts m) (v : View) (k : ℕ) (g : Good m v (s
 
   -- what an owner that is left says
   pub left-owner : (p : ℕ) → 0 < closedOwner m v k p → (closedOwner m v k p ≡ v .owner p) × (¬ Local (m .function (v .fn k)) (v .map k) (v .owner p))
-  unfolding closedOwner
   left-owner p h =
       let c = came-no (λ (x : ℕ). 0 < x) (closes m v k p) 0 (v .owner p) (λ l. not-suc-le-zero l) h in
       (cond-no 0 (v .owner p) (c .0), does-false (decLocal (m .function (v .fn k)) (v .map k) (v .owner p)) (c .0))
@@ -273,12 +275,10 @@ module _ (m : Module) (ok : ModuleFacts m) (v : View) (k : ℕ) (g : Good m v (s
       go (no d) = record { frame = l .frame; below = omega (arith, l .below); local = l .local }
 
   closed-marks : (p : ℕ) → p < pages → (j : ℕ) → j < pageBytes → closedOwner m v k p ≡ 0 → closedMark m v k p j ≡ 0
-  unfolding closedOwner closedMark
   closed-marks p l j o h =
       cond-split (λ (x : ℕ). x ≡ 0) (closes m v k p) 0 (v .mark p j) (λ c. refl) (λ c. g .marks p l j o (sym (cond-no 0 (v .owner p) c) ∙ h))
 
   closed-page0 : closedOwner m v k 0 ≡ 0
-  unfolding closedOwner
   closed-page0 = cond-split (λ (x : ℕ). x ≡ 0) (closes m v k 0) 0 (v .owner 0) (λ c. refl) (λ c. g .page0)
 
   pub good-closed : Good m (closed m k v) k
@@ -406,8 +406,8 @@ module _ (m : Module) (ok : ModuleFacts m) (v : View) (k g : ℕ) (μ ρ : ℕ �
           let s : Uses (m .function g .regionParams) T = ok .function g (f .rule .known) .paramScope a b in
           let x : ℕ = argument (f .arguments) a in
           let e : close (v .map k) (m .function (v .fn k) .registerType x) ≡ close μ T =
-          ap (close (v .map k)) (f .rule .arguments a b .1) ∙ sub-sub (λ r. region (v .map k (r .number))) (arg (f .regions)) T
-          ∙ sym (sub-agree (m .function g .regionParams) (λ r. region (μ (r .number))) (λ r. region (v .map k (arg (f .regions) r .number))) T s (λ i l. ap region (f .through i l))) in
+          ap (close (v .map k)) (f .rule .arguments a b .1) ∙ close-sub (v .map k) (f .regions) T
+          ∙ sym (close-agree (m .function g .regionParams) μ (λ i. v .map k (arg (f .regions) (region i) .number)) T s (f .through)) in
           rw (f .values a b)
           (value-keep m (heapTyping m v (suc k)) after (close μ T) (v .reg k x)
           (outer-close (Kept (heapTyping m v (suc k)) after) μ (m .function g .regionParams) T s
@@ -415,7 +415,7 @@ module _ (m : Module) (ok : ModuleFacts m) (v : View) (k g : ℕ) (μ ρ : ℕ �
           (rw e at (y .registers k low x (f .rule .arguments a b .0))))
       go (no b) =
           rw (f .zeros a (omega arith))
-          (value-zero m after (close μ T) (sub-primitive (λ r. region (μ (r .number))) T (ok .function g (f .rule .known) .primitive a h)))
+          (value-zero m after (close μ T) (sub-prim (λ r. region (μ (r .number))) T (ok .function g (f .rule .known) .primitive a h)))
 
   pub good-pushed : Good m (pushed k g μ ρ v) (suc (suc k))
   good-pushed = record {

@@ -12,7 +12,7 @@ use Rattle.rules.specs.Step.{Effect, set, fetch, save, takePlace, grantPage, fr
 use Rattle.rules.specs.StateTest.{Listed}
 use Rattle.rules.specs.Claim.{Touches}
 use Rattle.soundness.specs.Needs.{Slot}
-use Rattle.soundness.specs.Apply.{granted}
+use Rattle.state.specs.Apply.{granted}
 use Rattle.soundness.specs.Preserve.{SafePush}
 
 -- the top frame can go on to its next instruction

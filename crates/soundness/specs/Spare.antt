@@ -15,10 +15,11 @@ use Rattle.rules.specs.State.{View}
 use Rattle.rules.specs.Heap.{Live, typeOf}
 use Rattle.rules.specs.Step.{closes}
 use Rattle.rules.specs.StateTest.{MarksEnd, SpareOk}
-use Rattle.soundness.specs.Apply.{upd, upd-same, upd-other, upd-cases, upd2, upd2-cases, wrote, moved, saved, marked, granted, counted, pushed, closed, closedOwner, closedMark, became}
+use Rattle.state.specs.Update.{upd, upd-same, upd-other, upd-cases, upd2}
+use Rattle.state.specs.Apply.{wrote, moved, saved, marked, granted, counted, pushed, closed, closedOwner, became}
 use Rattle.soundness.specs.Facts.{FunctionFacts, ModuleFacts}
 use Rattle.soundness.specs.Good.{Good}
-use Rattle.soundness.specs.Preserve.{SafePush, open-kept, left-owner, live-kept}
+use Rattle.soundness.specs.Preserve.{upd2-cases, SafePush, open-kept, left-owner, live-kept}
 
 -- the marks of a page by its owner
 module _ (m : Module) (v : View) (n p : ℕ) where
@@ -117,7 +118,6 @@ spare-pushed m ok v k g μ ρ y f c = record {
     entry j h i o l (no d) = ap (λ (x : ℕ → ℕ). x i) (upd-other (v .map) (suc k) μ j d) ∙ c .maps j (omega arith) i o (rw (upd-other (v .fn) (suc k) g j d) at l)
 
 pub spare-closed : (m : Module) (ok : ModuleFacts m) (v : View) (k : ℕ) → Good m v (suc k) → SpareOk m v (suc k) → SpareOk m (closed m k v) k
-unfolding closedMark
 spare-closed m ok v k g c = record {
   functions = λ j l h. upd-cases (λ (x : ℕ). x ≡ 0) (v .fn) k 0 j (λ e. refl) (λ e. c .functions j l (omega arith));
   instructions = λ j l h. upd-cases (λ (x : ℕ). x ≡ 0) (v .pc) k 0 j (λ e. refl) (λ e. c .instructions j l (omega arith));
