@@ -6,3 +6,4 @@ pub mod Good
 pub mod Preserve
 pub mod Spare
 pub mod Safe
+pub mod Operations
