@@ -93,11 +93,11 @@ module _ (m : Module) (ok : ModuleFacts m) (fn pc : ℕ → ℕ) (map : ℕ → 
   frame-facts k h = ok .function (fn k) (s .known k h)
 
   -- the call at which frame k stands
-  pub chain-rule : (k : ℕ) (h : suc k < n) → let c = s .chain k h .caller .site in CallRule m (m .function (fn k)) (c .result) (fn (suc k)) (c .regions) (c .arguments)
-  chain-rule k h =
-      let l = s .chain k h in
+  pub chain-rule : (k : ℕ) → k < n → (l : Chained m fn pc map k)
+      → CallRule m (m .function (fn k)) (l .caller .site .result) (fn (suc k)) (l .caller .site .regions) (l .caller .site .arguments)
+  chain-rule k h l =
       subst (λ (g : ℕ). CallRule m (m .function (fn k)) (l .caller .site .result) g (l .caller .site .regions) (l .caller .site .arguments)) (l .callee)
-      (call-rule (rw (l .caller .site .is) at (frame-facts k (omega arith) .typed (pc k) (s .stands k (omega arith)))))
+      (call-rule (rw (l .caller .site .is) at (frame-facts k h .typed (pc k) (s .stands k h))))
 
   -- function 0 has no region parameters
   bottom : 0 < n → m .function (fn 0) .regionParams ≡ 0
@@ -114,7 +114,7 @@ module _ (m : Module) (ok : ModuleFacts m) (fn pc : ℕ → ℕ) (map : ℕ → 
           → Live m fn map (suc (suc k)) (suc (map (suc k) i))
       go (yes b) f =
           let c = s .chain k h in
-          let r = f (arg (c .caller .site .regions) (region i) .number) (chain-rule k h .scope i b) in
+          let r = f (arg (c .caller .site .regions) (region i) .number) (chain-rule k (omega arith) c .scope i b) in
           record { frame = r .frame; below = omega (arith, r .below); local = rw (c .through i b) (r .local) }
       go (no b) f =
           let j = i - m .function (fn (suc k)) .regionParams in
@@ -150,12 +150,12 @@ module _ (m : Module) (ok : ModuleFacts m) (fn pc : ℕ → ℕ) (map : ℕ → 
           typeOf-miss m fn map l r (λ c. fresh-map l (c .index) k (m .function (fn k) .regionParams + i) (omega arith) (c .below) (omega arith) (omega arith) (sym (suc-inj (c .is)))) ∙ f (omega arith)
 
   -- a type of the callee's region parameters, with the call's regions put in, is closed by the caller's map as it is by the callee's
-  pub through-types : (k : ℕ) (h : suc k < n) (T : Tree variable) → Uses (m .function (fn (suc k)) .regionParams) T
-      → close (map k) (sub (arg (s .chain k h .caller .site .regions)) T) ≡ close (map (suc k)) T
-  through-types k h T u =
-      let rs = s .chain k h .caller .site .regions in
+  pub through-types : (k : ℕ) (l : Chained m fn pc map k) (T : Tree variable) → Uses (m .function (fn (suc k)) .regionParams) T
+      → close (map k) (sub (arg (l .caller .site .regions)) T) ≡ close (map (suc k)) T
+  through-types k l T u =
+      let rs = l .caller .site .regions in
       close-sub (map k) rs T
-      ∙ sym (close-agree (m .function (fn (suc k)) .regionParams) (map (suc k)) (λ i. map k (arg rs (region i) .number)) T u (s .chain k h .through))
+      ∙ sym (close-agree (m .function (fn (suc k)) .regionParams) (map (suc k)) (λ i. map k (arg rs (region i) .number)) T u (l .through))
 
   -- so is that of each region in a map: types at a call are equal with the regions put in
   pub map-typed : (k i : ℕ) → k < n → i < regions (m .function (fn k)) → typeOf m fn map n (map k i) ≡ close (map k) (m .function (fn k) .regionType i)
@@ -170,11 +170,11 @@ module _ (m : Module) (ok : ModuleFacts m) (fn pc : ℕ → ℕ) (map : ℕ → 
           → typeOf m fn map n (map (suc k) i) ≡ close (map (suc k)) (m .function (fn (suc k)) .regionType i)
       go (yes b) f =
           let c = s .chain k h in
-          let d = chain-rule k h in
+          let d = chain-rule k (omega arith) c in
           let rs = c .caller .site .regions in
           let T : Tree variable = m .function (fn (suc k)) .regionType i in
           ap (typeOf m fn map n) (c .through i b) ∙ f (arg rs (region i) .number) (d .scope i b) ∙ ap (close (map k)) (d .regionTypes i b)
-          ∙ through-types k h T (frame-facts (suc k) h .regionParamScope i b)
+          ∙ through-types k c T (frame-facts (suc k) h .regionParamScope i b)
       go (no b) f =
           let p : ℕ = m .function (fn (suc k)) .regionParams in
           let e : p + (i - p) ≡ i = omega arith in

@@ -7,3 +7,4 @@ pub mod Preserve
 pub mod Spare
 pub mod Safe
 pub mod Operations
+pub mod Progress

@@ -53,11 +53,7 @@ pub record ApartSlots (x : ℕ) (q : Tree live) (y : ℕ) (t : Tree live) : Type
 pub slots-apart : (m : Module) (W : HeapTyping) (x y : ℕ) (q t : Tree live) → Slot m W x q → Slot m W y t → SameSlot x q y t ⊎ ApartSlots x q y t
 slots-apart = ?
 
-pub record SlotAt (m : Module) (W : HeapTyping) (r x : ℕ) (q : Tree live) : Type 0 where
-  pub slot : Slot m W x q
-  pub region : slot .region ≡ r
-
-pub stands-slot : (m : Module) (W : HeapTyping) (q : Tree live) (r x : ℕ) → Primitive q → Stands m W q r x → SlotAt m W r x q
+pub stands-slot : (m : Module) (W : HeapTyping) (q : Tree live) (r x : ℕ) → Primitive q → Stands m W q r x → Slot m W x q
 stands-slot = ?
 
 pub tree-size : (m : Module) (T : Tree variable) → TypesOk m → GoodTree m T → (0 < size m T) × (size m T ≤ sizeLimit)
@@ -76,6 +72,14 @@ module _ (m : Module) (types : TypesOk m) (W : HeapTyping) (μ : ℕ → ℕ) wh
       → size m U * suc j ≤ pageBytes → Stands m W (close μ T) r (pageBytes * p + size m U * j)
   stands-object = ?
 
+module _ (m : Module) (W : HeapTyping) where
   -- the run of T lies inside one object
   pub stands-inside : (T : Tree live) (r x : ℕ) → Stands m W T r x → x % pageBytes % size m (W .type r) + size m T ≤ size m (W .type r)
   stands-inside = ?
+
+pub size-sub : {k : RegionKind} (m : Module) (σ : Variable → Region k) (T : Tree variable) → size m (sub σ T) ≡ size m T
+size-sub = ?
+
+-- a primitive is its own run
+pub has-whole : {k : RegionKind} (m : Module) (T : Tree k) → Primitive T → Has (flat m T .prims) 0 T
+has-whole = ?
