@@ -1,25 +1,24 @@
 -- Laws of flat types: what `flat` gives for each form; primitives lie in order, apart and inside the size, start at 0 and cover
 -- every byte; sizes; flat types under substitution. What a law asks of the module stands in `TypesOk` and `GoodTree`.
-use mathlib.Core.Path.{_≡_, refl, sym, ap, ap₂, _∙_, subst}
-use mathlib.Core.Logic.{_⊎_, inl, inr, ⊎-elim}
+use mathlib.Core.Path.{_≡_, refl, sym, ap, _∙_, subst}
+use mathlib.Core.Logic.{_⊎_, inl, inr}
 use mathlib.Core.Bool.{cond}
 use mathlib.Core.List.{List, [], _∷_, _++_, map}
 use Prim.Native.Nat.{ℕ, zero, suc, _+_, _-_, _*_, _≤_, _<_}
-use native.Mathlib.Nat.{add-zero, zero-add, add-assoc, not-suc-le-zero, le-of-suc-le-suc, mul-le-mul-left, mul-le-mul-right, mul-pos}
-use native.Mathlib.Decide.{decLt}
+use native.Mathlib.Nat.{not-suc-le-zero, mul-pos}
 use native.Mathlib.Omega.{arith}
 use lib.Dec.{leb}
 use lib.ListN.{length, getD, length-map}
 use Rattle.words.specs.Choose.{cond-split, split-le, lt-or-le}
 use Rattle.rules.specs.Limits.{sizeLimit}
 use Rattle.rules.specs.Decide.{Each, none, more}
-use Rattle.rules.specs.Types.{RegionKind, variable, Region, Variable, Tree, int, ptr, arr, struct, width, sub, arg, Uses, in-int, in-ptr, in-arr, in-struct, Primitive, integer, pointer}
+use Rattle.rules.specs.Types.{RegionKind, variable, Region, Variable, Tree, int, ptr, arr, struct, width, sub, arg, Uses, in-arr, in-struct, Primitive, integer, pointer}
 use Rattle.rules.specs.Module.{Module}
-use Rattle.rules.specs.Flat.{Placed, at, off, type, Has, here, there, Layout, single, none as noLayout, empty, moved, packed, beside, copiesOf, copies, placedIn, subLayout, flatWith, fieldsWith, layouts, flat, structFlat, size, count, distance}
+use Rattle.rules.specs.Flat.{Placed, at, off, type, Has, here, there, Layout, single, none as noLayout, moved, packed, beside, copiesOf, copies, placedIn, subLayout, flatWith, fieldsWith, layouts, flat, structFlat, size, count, distance}
 use Rattle.layout.specs.TypesOk.{Width, one, two, four, GoodTree, good-int, good-ptr, good-arr, good-struct, TypesOk}
-use Rattle.layout.specs.Lists.{each-append, each-all, each-at, each-map, each-weaken, map-map, map-each, snoc-cases}
+use Rattle.layout.specs.Lists.{each-append, each-all, each-map, each-weaken, map-map, map-each, snoc-cases}
 use Rattle.layout.specs.Types.{sub-sub, sub-agree, sub-width, sub-prim, arg-map, arg-uses, uses-sub}
-use Rattle.layout.specs.Prims.{has-append-left, has-append-right, has-moved, has-placed, has-some, has-each, at-has, nth, size-copiesOf, beside-sized, copies-sized, size-copies, copies-fit, subLayout-copies, length-layouts, Ints, ints-all, Made, made-flat}
+use Rattle.layout.specs.Prims.{has-append-left, has-append-right, has-moved, has-placed, has-some, has-each, size-copiesOf, count-copiesOf, copies-sized, size-copies, copies-fit, subLayout-size, subLayout-copies, count-sub, length-layouts, Ints, ints-all, Made, made-flat}
 
 -- ---- by form
 
@@ -286,6 +285,13 @@ pub size-arr : {k : RegionKind} (m : Module) (n : ℕ) (T : Tree k) → size m (
 size-arr {k} m n T h =
     ap (λ (L : Layout k). L .size) (flat-arr m n T ∙ copies-sized n (flat m T) (element-sized m n T h)) ∙ size-copiesOf n (flat m T)
 
+pub count-arr : {k : RegionKind} (m : Module) (n : ℕ) (T : Tree k) → size m (arr n T) ≤ sizeLimit → count (flat m (arr n T)) ≡ n * count (flat m T)
+count-arr {k} m n T h =
+    ap (λ (L : Layout k). count L) (flat-arr m n T ∙ copies-sized n (flat m T) (element-sized m n T h)) ∙ count-copiesOf n (flat m T)
+
+pub size-struct : {k : RegionKind} (m : Module) (N : ℕ) (rs : List (Region k)) → size m (struct N rs) ≡ structFlat m N .size
+size-struct {k} m N rs = ap (λ (L : Layout k). L .size) (flat-struct m N rs) ∙ subLayout-size (arg rs) (structFlat m N)
+
 module _ {j k : RegionKind} (σ : Region j → Region k) where
   with-size-sub : (ls : List (Layout variable)) (T : Tree j) → flatWith ls (sub σ T) .size ≡ flatWith ls T .size
   unfolding flatWith sub subLayout
@@ -412,3 +418,6 @@ module _ (m : Module) where
     pub flat-sub : {j k : RegionKind} (σ : Region j → Region k) (T : Tree j) → GoodTree m T → flat m (sub σ T) ≡ subLayout σ (flat m T)
     unfolding flat
     flat-sub σ T g = with-sub (layouts m (m .structs)) (uses-layouts (m .structs) (omega arith)) σ T g
+
+    pub count-flat-sub : {j k : RegionKind} (σ : Region j → Region k) (T : Tree j) → GoodTree m T → count (flat m (sub σ T)) ≡ count (flat m T)
+    count-flat-sub {j} {k} σ T g = ap (λ (L : Layout k). count L) (flat-sub σ T g) ∙ count-sub σ (flat m T)
