@@ -52,7 +52,7 @@ number-wordsOf ρ a (suc n) (suc i) b h e l =
 
 -- ---- the frame
 
-zeros-zero : (n k : ℕ) → byteAt (replicate n 0) k ≡ 0
+pub zeros-zero : (n k : ℕ) → byteAt (replicate n 0) k ≡ 0
 zeros-zero zero k = refl
 zeros-zero (suc n) zero = refl
 zeros-zero (suc n) (suc k) = zeros-zero n k
