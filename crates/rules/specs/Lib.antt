@@ -25,3 +25,7 @@ pub mod Run
 pub mod StateTest
 pub mod Host
 pub mod Claim
+-- cases: nothing below says what the rules are
+pub mod Quick
+pub mod Table
+pub mod CasesFile
