@@ -1,49 +1,63 @@
--- What the theorem takes of a module: ranges, scopes and types of each function, the rule of each instruction, and that control goes on
--- after all kinds but 31 and 34. All of it follows from the verdict (`facts-of`). Assumes nothing.
-use mathlib.Core.Path.{_≡_, subst}
+-- What the theorem takes of a module: ranges, scopes and types of each function, the rule of each instruction, that control goes on
+-- after all kinds but 31 and 34, and the types' laws. All of it follows from the verdict (`accepted-ok`). Assumes nothing.
+use mathlib.Core.Path.{_≡_, sym, subst}
+use mathlib.Core.Logic.{_⊎_, inl, inr}
+use mathlib.Core.List.{List, [], _∷_}
 use Prim.Native.Nat.{ℕ, suc, _<_, _≤_}
-use Rattle.rules.specs.Types.{variable, Tree, int, ptr, Uses, Primitive}
-use Rattle.rules.specs.Module.{Module, Function, regions, Instruction, constant, copy, operate, zeroExtend, signExtend, address, check, field, index, load, store, new, free, input, output, jump, branch, call, return}
-use Rattle.rules.specs.Typing.{Typed}
-use Rattle.rules.specs.WellTyped.{Ranges, EntryOk}
-use Rattle.layout.specs.TypesOk.{TypesOk}
+use lib.ListN.{length}
+use Rattle.words.specs.Bytes.{Bytes}
+use Rattle.rules.specs.Limits.{mostFunctions}
+use Rattle.rules.specs.Decide.{Each, none, more}
+use Rattle.rules.specs.Types.{variable, Tree, int, ptr, arr, struct}
+use Rattle.rules.specs.Module.{Module}
+use Rattle.rules.specs.Decode.{moduleOf}
+use Rattle.rules.specs.WellTyped.{WellTyped, EntryOk}
+use Rattle.rules.specs.Verdict.{verdictOf}
+use Rattle.rules.specs.Claim.{IsAccepted}
+use Rattle.layout.specs.TypesOk.{Width, one, two, four, GoodTree, good-int, good-ptr, good-arr, good-struct, TypesOk}
+use Rattle.typing.specs.Accepted.{accepted}
+use Rattle.typing.specs.Types.{Deep, deep-int, deep-ptr, deep-arr, deep-struct, DeepModule, deep}
+use Rattle.typing.specs.Facts.{FunctionFacts, function-facts}
 
--- Control goes on to the next instruction after all kinds but 31 and 34. (Refusal 8 lets only these two stand last.)
-abbrev pub GoesOn : Instruction → ℕ → ℕ → Type 0
-GoesOn (constant a d) i n = suc i < n
-GoesOn (copy a b) i n = suc i < n
-GoesOn (operate o a b c) i n = suc i < n
-GoesOn (zeroExtend a b) i n = suc i < n
-GoesOn (signExtend a b) i n = suc i < n
-GoesOn (address a b) i n = suc i < n
-GoesOn (check a b) i n = suc i < n
-GoesOn (field a b d) i n = suc i < n
-GoesOn (index a b c) i n = suc i < n
-GoesOn (load a b) i n = suc i < n
-GoesOn (store a b) i n = suc i < n
-GoesOn (new a) i n = suc i < n
-GoesOn (free a) i n = suc i < n
-GoesOn (input a c) i n = suc i < n
-GoesOn (output b) i n = suc i < n
-GoesOn (jump d) i n = Unit {0}
-GoesOn (branch a d) i n = suc i < n
-GoesOn (call a g rs xs) i n = suc i < n
-GoesOn (return a) i n = Unit {0}
-
-pub record FunctionFacts (m : Module) (f : Function) : Type 0 where
-  pub ranges : Ranges f
-  pub primitive : (a : ℕ) → a < f .registers → Primitive (f .registerType a)
-  pub registerScope : (a : ℕ) → a < f .registers → Uses (regions f) (f .registerType a)
-  pub paramScope : (a : ℕ) → a < f .params → Uses (f .regionParams) (f .registerType a)
-  pub regionScope : (i : ℕ) → i < regions f → Uses (regions f) (f .regionType i)
-  pub regionParamScope : (i : ℕ) → i < f .regionParams → Uses (f .regionParams) (f .regionType i)
-  pub returns : Uses (f .regionParams) (f .result)
-  pub typed : (i : ℕ) → i < f .length → Typed m f (f .code i)
-  pub goesOn : (i : ℕ) → i < f .length → GoesOn (f .code i) i (f .length)
-
-pub record ModuleFacts (m : Module) : Type 0 where
+pub record ModuleOk (m : Module) : Type 0 where
   pub types : TypesOk m
   pub some : 1 ≤ m .functions
-  pub functions : m .functions ≤ 32
+  pub few : m .functions ≤ mostFunctions
   pub function : (g : ℕ) → g < m .functions → FunctionFacts m (m .function g)
   pub entry : EntryOk (m .function 0)
+
+-- a type of a well-typed module is one that the laws take
+width : {w : ℕ} → (w ≡ 1) ⊎ ((w ≡ 2) ⊎ (w ≡ 4)) → Width w
+width (inl e) = subst Width (sym e) one
+width (inr (inl e)) = subst Width (sym e) two
+width (inr (inr e)) = subst Width (sym e) four
+
+good : {m : Module} {T : Tree variable} → Deep m T → GoodTree m T
+good (deep-int k w) = good-int (width w)
+good (deep-ptr k d) = good-ptr (good d)
+good (deep-arr k some few d) = good-arr some (k .sized) (good d)
+good (deep-struct k) = good-struct (k .sized) (k .counts)
+
+good-each : {m : Module} {l : List (Tree variable)} → Each (Deep m) l → Each (GoodTree m) l
+good-each none = none
+good-each (more d e) = more (good d) (good-each e)
+
+pub module-ok : (m : Module) → WellTyped m → DeepModule m → ModuleOk m
+module-ok m t d = record {
+  types = record {
+    some = d .someFields;
+    fields = λ N h. good-each (d .fields N);
+    uses = λ N h. t .structs N h .uses;
+    regionTypes = λ g i h l. good (d .function g .regionType i);
+    registerTypes = λ g a h l. good (d .function g .registerType a);
+    results = λ g h. good (d .function g .result);
+  };
+  some = t .tables .some;
+  few = t .tables .functions;
+  function = function-facts m t d;
+  entry = t .entry;
+}
+
+-- the module of an accepted file
+pub accepted-ok : (f : Bytes) → IsAccepted (verdictOf f) → ModuleOk (moduleOf f)
+accepted-ok f a = module-ok (moduleOf f) (accepted f a) (deep f a)

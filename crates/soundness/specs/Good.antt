@@ -22,9 +22,10 @@ use Rattle.rules.specs.Heap.{close, Local, Live, localList, liveList, look, typ
 use Rattle.rules.specs.Step.{StandsAtCall}
 use Rattle.rules.specs.StateTest.{Chained, FramesOk}
 use Rattle.soundness.specs.Fresh.{In, in-head, in-tail, in-left, in-right}
-use Rattle.layout.specs.Types.{close-agree, close-sub, Outer, outer-close}
-use Rattle.soundness.specs.Needs.{has-close, Slot}
-use Rattle.soundness.specs.Facts.{FunctionFacts, ModuleFacts}
+use Rattle.layout.specs.Types.{close-agree, close-sub, Outer}
+use Rattle.layout.specs.Heap.{Slot, outer-flat}
+use Rattle.typing.specs.Facts.{FunctionFacts}
+use Rattle.soundness.specs.Facts.{ModuleOk}
 
 -- The state test for a state with n frames, but for the status and the spare bytes.
 pub record Good (m : Module) (v : View) (n : ℕ) : Type 0 where
@@ -88,7 +89,7 @@ pub record CallRule (m : Module) (f : Function) (a g : ℕ) (rs : List Variable)
 pub call-rule : {m : Module} {f : Function} {a g : ℕ} {rs : List Variable} {xs : List ℕ} → Typed m f (call a g rs xs) → CallRule m f a g rs xs
 call-rule (t-call k s r x t) = record { known = k; scope = s; regionTypes = r; arguments = x; result = t }
 
-module _ (m : Module) (ok : ModuleFacts m) (fn pc : ℕ → ℕ) (map : ℕ → ℕ → ℕ) (n : ℕ) (s : FramesOk m fn pc map n) where
+module _ (m : Module) (ok : ModuleOk m) (fn pc : ℕ → ℕ) (map : ℕ → ℕ → ℕ) (n : ℕ) (s : FramesOk m fn pc map n) where
   pub frame-facts : (k : ℕ) → k < n → FunctionFacts m (m .function (fn k))
   frame-facts k h = ok .function (fn k) (s .known k h)
 
@@ -188,11 +189,10 @@ module _ (m : Module) (ok : ModuleFacts m) (fn pc : ℕ → ℕ) (map : ℕ → 
       let g : Function = m .function (fn (l .frame)) in
       let i : ℕ = g .regionParams + l .local .index in
       let inside : i < regions g = omega (arith, l .local .below) in
-      let facts = frame-facts (l .frame) (l .below) in
+      let known : fn k < m .functions = s .known k (l .below) in
       let e : typeOf m fn map n r ≡ close (map k) (g .regionType i) = ap (typeOf m fn map n) (sym (suc-inj (l .local .is))) ∙ map-typed k i (l .below) inside in
-      let c = has-close m (ok .types) (map k) (regions g) (g .regionType i) d q (ok .types .regionTypes (fn k) i (s .known k (l .below)) inside) (facts .regionScope i inside)
-      (subst (λ (T : Tree live). Has (flat m T .prims) d q) e h) in
-      rw (c .2) (outer-close P (map k) (regions g) (c .0) (c .1) f)
+      outer-flat m (ok .types) P (map k) (regions g) (g .regionType i) (ok .types .regionTypes (fn k) i known inside) (ok .function (fn k) known .regionScope i inside) f
+      (subst (λ (T : Tree live). Has (flat m T .prims) d q) e h)
 
 -- ---- live is in the list
 
@@ -228,7 +228,7 @@ unfolding localList
 local-length μ lo zero = refl
 local-length μ lo (suc c) = ap suc (local-length μ lo c)
 
-pub live-length : (m : Module) → ModuleFacts m → (fn : ℕ → ℕ) (map : ℕ → ℕ → ℕ) (n : ℕ) → ((k : ℕ) → k < n → fn k < m .functions) → length (liveList m fn map n) ≤ 7 * n
+pub live-length : (m : Module) → ModuleOk m → (fn : ℕ → ℕ) (map : ℕ → ℕ → ℕ) (n : ℕ) → ((k : ℕ) → k < n → fn k < m .functions) → length (liveList m fn map n) ≤ 7 * n
 unfolding liveList
 live-length m ok fn map zero h = omega arith
 live-length m ok fn map (suc n) h =

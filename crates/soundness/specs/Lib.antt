@@ -1,6 +1,5 @@
 -- Demand 3: its theorem (Demand3), what follows for code (ForCode) and for the auditor (Audit).
 pub mod Fresh
-pub mod Needs
 pub mod Facts
 pub mod Good
 pub mod Preserve

@@ -20,11 +20,11 @@ use Rattle.rules.specs.Step.{StandsAtCall, closes}
 use Rattle.rules.specs.StateTest.{Chained, FramesOk}
 use Rattle.soundness.specs.Fresh.{In}
 use Rattle.layout.specs.Types.{close-agree, close-sub, sub-prim, Outer, outer-close, outer-all}
-use Rattle.layout.specs.Flat.{flat-inside, flat-has-prim}
-use Rattle.soundness.specs.Needs.{Slot, Kept, value-keep, value-zero, value-bound, SameSlot, ApartSlots, slots-apart}
+use Rattle.layout.specs.Flat.{flat-inside, flat-has-prim, SamePlace, Apart}
+use Rattle.layout.specs.Heap.{Slot, Kept, value-keep, value-zero, slots-apart}
 use Rattle.state.specs.Update.{upd, upd-same, upd-other, upd-cases, upd2, stored, zeroed, memoryNumber-stored, memoryNumber-stored-apart, memoryNumber-zeroed, memoryNumber-zeroed-apart}
 use Rattle.state.specs.Apply.{wrote, moved, saved, marked, granted, pushed, closed, closedOwner, closedMark}
-use Rattle.soundness.specs.Facts.{FunctionFacts, ModuleFacts}
+use Rattle.soundness.specs.Facts.{ModuleOk}
 use Rattle.soundness.specs.Good.{Good, typeOf-agree, typeOf-miss, CallRule, call-rule, map-live, fresh-map, outer-page, live-in, live-more}
 
 -- a function of two numbers changed at one place
@@ -142,6 +142,14 @@ good-wrote m v k a x g h y = record {
 
 -- ---- 26: one primitive
 
+-- a value fits into the bytes of its type
+pub value-bound : (m : Module) (W : HeapTyping) (T : Tree live) (x : ℕ) → Value m W T x → x < 256 ^ width T
+value-bound m W (int w) x h = h
+value-bound m W (ptr T r) x (inl z) = omega arith
+value-bound m W (ptr T r) x (inr h) = omega (arith, h .inside)
+value-bound m W (arr n T) x h = absurd h
+value-bound m W (struct N rs) x h = absurd h
+
 pub good-saved : (m : Module) (v : View) (n x y : ℕ) (q : Tree live) → Good m v n → Slot m (heapTyping m v n) x q → Value m (heapTyping m v n) q y → Good m (saved x (width q) y v) n
 good-saved m v n x y q g s h = record {
   frames = g .frames;
@@ -152,7 +160,7 @@ good-saved m v n x y q g s h = record {
   slots = λ z t l. go z t l (slots-apart m (heapTyping m v n) x z q t s l);
 }
   where
-    go : (z : ℕ) (t : Tree live) → Slot m (heapTyping m v n) z t → SameSlot x q z t ⊎ ApartSlots x q z t
+    go : (z : ℕ) (t : Tree live) → Slot m (heapTyping m v n) z t → SamePlace x q z t ⊎ Apart x q z t
         → Value m (heapTyping m v n) t (memoryNumber (stored (v .memory) x (width q) y) z (width t))
     go z t l (inl e) = rw (← (e .place), ← (e .tree), memoryNumber-stored (v .memory) x (width q) y (value-bound m (heapTyping m v n) q y h)) h
     go z t l (inr e) = rw (memoryNumber-stored-apart (v .memory) x (width q) y z (width t) (e .gap)) (g .slots z t l)
@@ -235,7 +243,7 @@ slot-in m before after x q s e own = record {
 
 -- ---- 34: the top frame's local regions are closed
 
-module _ (m : Module) (ok : ModuleFacts m) (v : View) (k : ℕ) (g : Good m v (suc k)) where
+module _ (m : Module) (ok : ModuleOk m) (v : View) (k : ℕ) (g : Good m v (suc k)) where
   low-fn : (j : ℕ) → j < k → upd (v .fn) k 0 j ≡ v .fn j
   low-fn j h = upd-other (v .fn) k 0 j (omega arith)
 
@@ -331,7 +339,7 @@ pub record SafePush (m : Module) (v : View) (k g : ℕ) (μ ρ : ℕ → ℕ) : 
   pub values : (i : ℕ) → i < m .function g .params → ρ i ≡ v .reg k (argument arguments i)
   pub zeros : (i : ℕ) → m .function g .params ≤ i → ρ i ≡ 0
 
-module _ (m : Module) (ok : ModuleFacts m) (v : View) (k g : ℕ) (μ ρ : ℕ → ℕ) (y : Good m v (suc k)) (f : SafePush m v k g μ ρ) where
+module _ (m : Module) (ok : ModuleOk m) (v : View) (k g : ℕ) (μ ρ : ℕ → ℕ) (y : Good m v (suc k)) (f : SafePush m v k g μ ρ) where
   old-fn : (j : ℕ) → j < suc k → upd (v .fn) (suc k) g j ≡ v .fn j
   old-fn j h = upd-other (v .fn) (suc k) g j (omega arith)
 
@@ -415,7 +423,7 @@ module _ (m : Module) (ok : ModuleFacts m) (v : View) (k g : ℕ) (μ ρ : ℕ �
           (rw e at (y .registers k low x (f .rule .arguments a b .0))))
       go (no b) =
           rw (f .zeros a (omega arith))
-          (value-zero m after (close μ T) (sub-prim (λ r. region (μ (r .number))) T (ok .function g (f .rule .known) .primitive a h)))
+          (value-zero m after (close μ T) (sub-prim (λ r. region (μ (r .number))) T (ok .function g (f .rule .known) .registerPrimitive a h)))
 
   pub good-pushed : Good m (pushed k g μ ρ v) (suc (suc k))
   good-pushed = record {

@@ -15,7 +15,7 @@ use Rattle.words.specs.Bytes.{Bytes, AllBytes, byteAt}
 use Rattle.words.specs.First.{firstFrom}
 use Rattle.words.specs.FirstLaws.{firstFrom-least, first-le}
 use Rattle.words.specs.Choose.{cond-lt, cond-nlt, cond-split, split-lt, split-eq, both, true-not-false}
-use Rattle.rules.specs.Limits.{pages, pageBytes, firstPage, pastPage, mostFrames, outputBytes}
+use Rattle.rules.specs.Limits.{pages, pageBytes, firstPage, pastPage, mostFrames, outputBytes, sizeLimit}
 use Rattle.rules.specs.Decide.{does, does-true, decAll}
 use Rattle.rules.specs.Types.{variable, live, Variable, region, Tree, int, ptr, arr, struct, sub, width, arg, Uses, in-ptr, Primitive}
 use Rattle.rules.specs.Module.{Module, Function, regions, argument, Instruction, constant, copy, operate, zeroExtend, signExtend, address, check, field, index, load, store, new, free, input, output, jump, branch, call, return}
@@ -29,16 +29,17 @@ use Rattle.rules.specs.Step.{Effect, set, fetch, save, takePlace, grantPage, fr
 use Rattle.rules.specs.StateTest.{Listed, Chained, FramesOk, site-unique}
 use Rattle.rules.specs.Claim.{Touches}
 use Rattle.layout.specs.TypesOk.{GoodTree, good-ptr, good-arr}
-use Rattle.layout.specs.Types.{sub-width, sub-prim}
-use Rattle.layout.specs.Flat.{size-prim}
+use Rattle.layout.specs.Flat.{size-prim, good-sized}
 use Rattle.state.specs.Update.{upd-same}
 use Rattle.state.specs.Apply.{granted}
-use Rattle.soundness.specs.Needs.{size-sub, has-whole, tree-size, Slot, stands-slot, stands-field, stands-element, stands-object, stands-inside, value-bound}
-use Rattle.soundness.specs.Facts.{FunctionFacts, ModuleFacts, GoesOn}
+use Rattle.layout.specs.Close.{close-width, close-prim, size-close, good-close, close-arr, distance-close, run-close, same-close}
+use Rattle.layout.specs.Heap.{HeapOk, heap-ok, Slot, stands-slot, stands-field, stands-index, stands-new, stands-object, stands-bytes, pow-pos}
+use Rattle.typing.specs.Facts.{FunctionFacts, GoesOn}
+use Rattle.soundness.specs.Facts.{ModuleOk}
 use Rattle.soundness.specs.Fresh.{In, numbers-length, numbers-out, numbers-differ, numbers-small, number-in}
-use Rattle.soundness.specs.Operations.{Fits, pow-pos, cut-lt, operate-fits, quotient-fits, compare-fits}
+use Rattle.soundness.specs.Operations.{Fits, cut-lt, operate-fits, quotient-fits, compare-fits}
 use Rattle.soundness.specs.Good.{Good, CallRule, call-rule, chain-rule, through-types, map-live, map-typed, live-length}
-use Rattle.soundness.specs.Preserve.{SafePush}
+use Rattle.soundness.specs.Preserve.{SafePush, value-bound}
 use Rattle.soundness.specs.Safe.{Next, SafeSet, SafeFree, SafePop, Safe}
 
 -- ---- guards and choices: what holds of each effect behind them holds of the whole
@@ -77,9 +78,6 @@ sign-lt u w x = cut-lt u (cond (ltb (2 * x) (256 ^ w)) x (x + (256 ^ 4 - 256 ^ w
 target-ok : {m : Module} {T : Tree variable} {r : Variable} → GoodTree m (ptr T r) → GoodTree m T
 target-ok (good-ptr t) = t
 
-element-ok : {m : Module} {T : Tree variable} {n : ℕ} → GoodTree m (arr n T) → GoodTree m T
-element-ok (good-arr n s t) = t
-
 -- as many places as fit into a page
 places-fit : (s j : ℕ) → 0 < s → j < placesInPage s → s * suc j ≤ pageBytes
 places-fit s j h l =
@@ -97,7 +95,7 @@ room-found false e = absurd (true-not-false refl e)
 abbrev top : Module → View → ℕ → Function
 top m v k = m .function (v .fn k)
 
-module _ (m : Module) (ok : ModuleFacts m) (form : Bytes) (bytes : AllBytes form) (v : View) (k : ℕ) (g : Good m v (suc k)) where
+module _ (m : Module) (ok : ModuleOk m) (form : Bytes) (bytes : AllBytes form) (v : View) (k : ℕ) (g : Good m v (suc k)) where
   low : k < suc k
   low = omega arith
 
@@ -107,6 +105,9 @@ module _ (m : Module) (ok : ModuleFacts m) (form : Bytes) (bytes : AllBytes form
   held : (b : ℕ) → b < top m v k .registers → Held m form v k (top m v k) b
   held b h = g .registers k low b h
 
+  heap : HeapOk m (heapTyping m v (suc k))
+  heap = heap-ok m (ok .types) v (suc k) (g .frames .known)
+
   register-ok : (a : ℕ) → a < top m v k .registers → GoodTree m (top m v k .registerType a)
   register-ok a h = ok .types .registerTypes (v .fn k) a (g .frames .known k low) h
 
@@ -114,7 +115,7 @@ module _ (m : Module) (ok : ModuleFacts m) (form : Bytes) (bytes : AllBytes form
   region-ok i h = ok .types .regionTypes (v .fn k) i (g .frames .known k low) h
 
   region-size : (i : ℕ) → i < regions (top m v k) → (0 < size m (top m v k .regionType i)) × (size m (top m v k .regionType i) ≤ pageBytes)
-  region-size i h = tree-size m (top m v k .regionType i) (ok .types) (region-ok i h)
+  region-size i h = facts .regionSize i
 
   -- of a pointer register: its target is a right type, its region is in scope
   pointee-ok : (b : ℕ) (T : Tree variable) (r : Variable) → top m v k ⊢ b ∶ ptr T r → GoodTree m T
@@ -179,7 +180,7 @@ module _ (m : Module) (ok : ModuleFacts m) (form : Bytes) (bytes : AllBytes form
 
   -- the size of an object of a region in scope
   object-size : (r : ℕ) → r < regions (top m v k) → size m (typeOf m (v .fn) (v .map) (suc k) (v .map k r)) ≡ size m (top m v k .regionType r)
-  object-size r h = ap (size m) (home r h .type) ∙ size-sub m (λ x. region (v .map k (x .number))) (top m v k .regionType r)
+  object-size r h = ap (size m) (home r h .type) ∙ size-close (v .map k) m (top m v k .regionType r)
 
   check-safe : (a b : ℕ) (T : Tree variable) (r : Variable) → b < top m v k .registers → top m v k ⊢ a ∶ ptr T r → Next m v k → Safe m v k (exec m form v k (top m v k) (check a b))
   unfolding exec
@@ -199,18 +200,16 @@ module _ (m : Module) (ok : ModuleFacts m) (form : Bytes) (bytes : AllBytes form
 
   -- the primitive that a pointer register a to type T names
   slot-of : (a : ℕ) (T : Tree variable) (r : Variable) → Primitive T → top m v k ⊢ a ∶ ptr T r → v .reg k a ≢ 0 → Slot m (heapTyping m v (suc k)) (v .reg k a) (close (v .map k) T)
-  slot-of a T r c p z = stands-slot m (heapTyping m v (suc k)) (close (v .map k) T) (v .map k (r .number)) (v .reg k a) (sub-prim (λ x. region (v .map k (x .number))) T c) (pointed a T r p z)
+  slot-of a T r c p z = stands-slot m (heapTyping m v (suc k)) (close (v .map k) T) (v .map k (r .number)) (v .reg k a) (close-prim (v .map k) T c) (pointed a T r p z)
 
   touches : (a : ℕ) (T : Tree variable) (r : Variable) → Primitive T → top m v k ⊢ a ∶ ptr T r → v .reg k a ≢ 0 → Touches m v k a (v .reg k a) (width T)
   touches a T r c p z =
       let h = pointed a T r p z in
       let i = pointer-scope a T r p in
       let q : Tree live = close (v .map k) T in
-      let U : Tree live = typeOf m (v .fn) (v .map) (suc k) (v .map k (r .number)) in
-      let wide : width q ≡ width T = sub-width (λ x. region (v .map k (x .number))) T in
-      let sized : size m q ≡ size m T = size-sub m (λ x. region (v .map k (x .number))) T in
-      let d = stands-inside m (heapTyping m v (suc k)) q (v .map k (r .number)) (v .reg k a) h in
-      let e : size m U * (v .reg k a % pageBytes / size m U) + v .reg k a % pageBytes % size m U ≡ v .reg k a % pageBytes = div-add-mod (v .reg k a % pageBytes) (size m U) in
+      let whole : size m q ≡ size m T = size-close (v .map k) m T in
+      let wide : size m T ≡ width T = size-prim m T c in
+      let small : size m q ≤ sizeLimit = omega (arith, whole, good-sized m T (pointee-ok a T r p)) in
       record {
         target = T;
         within = r;
@@ -220,8 +219,8 @@ module _ (m : Module) (ok : ModuleFacts m) (form : Bytes) (bytes : AllBytes form
         scope = i;
         alive = map-live m ok (v .fn) (v .pc) (v .map) (suc k) (g .frames) k (r .number) low i;
         run = h;
-        object = λ j l o. record { low = omega (arith, e); high = omega (arith, e, d, sized); whole = h .fits };
-        bytes = λ j l o. record { distance = 0; type = q; has = has-whole m q (sub-prim (λ x. region (v .map k (x .number))) T c); low = omega arith; high = omega (arith, wide) };
+        object = λ j l o. stands-object m (heapTyping m v (suc k)) q (v .map k (r .number)) (v .reg k a) small h j l (omega (arith, whole));
+        bytes = λ j l o. stands-bytes m (heapTyping m v (suc k)) q (v .map k (r .number)) (v .reg k a) small h j l (omega (arith, whole, wide));
       }
 
   -- ---- 27 and 28
@@ -233,8 +232,12 @@ module _ (m : Module) (ok : ModuleFacts m) (form : Bytes) (bytes : AllBytes form
       → Stands m W (close (v .map k) T) (v .map k (r .number)) (pageBytes * p + size m (top m v k .regionType (r .number)) * j)
   object-run W same a T r ra e p j inside own fits =
       let h = pointer-scope a T r ra in
-      stands-object m (ok .types) W (v .map k) T (top m v k .regionType (r .number)) (v .map k (r .number)) p j (pointee-ok a T r ra) (region-ok (r .number) h) e
-      (ap (λ (t : ℕ → Tree live). t (v .map k (r .number))) same ∙ home (r .number) h .type) inside own fits
+      let U : Tree variable = top m v k .regionType (r .number) in
+      let is : W .type (v .map k (r .number)) ≡ close (v .map k) U = ap (λ (t : ℕ → Tree live). t (v .map k (r .number))) same ∙ home (r .number) h .type in
+      let sized : size m (W .type (v .map k (r .number))) ≡ size m U = ap (size m) is ∙ size-close (v .map k) m U in
+      subst (λ (x : ℕ). Stands m W (close (v .map k) T) (v .map k (r .number)) (pageBytes * p + x * j)) sized
+      (stands-new m W (close (v .map k) T) (v .map k (r .number)) p j inside own (rw sized (region-size (r .number) h .0)) (rw sized fits)
+      (rw is (same-close (v .map k) m (ok .types) T (pointee-ok a T r ra) U (region-ok (r .number) h) e)))
 
   granted-set : (a : ℕ) (T : Tree variable) (r : Variable) (q : ℕ) → top m v k ⊢ a ∶ ptr T r → Next m v k
       → Stands m (heapTyping m (granted q (v .map k (r .number)) v) (suc k)) (close (v .map k) T) (v .map k (r .number)) (pageBytes * q)
@@ -370,7 +373,7 @@ module _ (m : Module) (ok : ModuleFacts m) (form : Bytes) (bytes : AllBytes form
       let caller = ok .function (v .fn c) (g .frames .known c below) in
       let same : close (v .map k) (top m v k .registerType a) ≡ close (v .map c) (m .function (v .fn c) .registerType (h .site .result)) =
       ap (close (v .map k)) (r .1) ∙ ap (λ (j : ℕ). close (v .map j) (m .function (v .fn j) .result)) (sym e)
-      ∙ sym (through-types m ok (v .fn) (v .pc) (v .map) (suc k) (g .frames) c l (m .function (v .fn (suc c)) .result) (ok .function (v .fn (suc c)) (g .frames .known (suc c) inside) .returns))
+      ∙ sym (through-types m ok (v .fn) (v .pc) (v .map) (suc k) (g .frames) c l (m .function (v .fn (suc c)) .result) (ok .function (v .fn (suc c)) (g .frames .known (suc c) inside) .resultScope))
       ∙ ap (close (v .map c)) (sym (rule .result .1)) in
       let on : GoesOn (call (h .site .result) (h .site .callee) (h .site .regions) (h .site .arguments)) (v .pc c) (m .function (v .fn c) .length) =
       subst (λ (i : Instruction). GoesOn i (v .pc c) (m .function (v .fn c) .length)) (h .site .is) (caller .goesOn (v .pc c) (g .frames .stands c below)) in
@@ -410,7 +413,9 @@ module _ (m : Module) (ok : ModuleFacts m) (form : Bytes) (bytes : AllBytes form
       (onPtr-safe (Safe m v k) (top m v k .registerType b) T r (λ T r. notZero (v .reg k b) (set a (v .reg k b + distance (flat m T) d))) (rb .1)
       (notZero-safe (Safe m v k) (v .reg k b) _ (listed 31 (omega arith) (omega arith))
       (λ z. set-run a U r (v .reg k b + distance (flat m T) d) ra n
-      (stands-field m (ok .types) (heapTyping m v (suc k)) (v .map k) T U (v .map k (r .number)) (v .reg k b) d (pointee-ok b T r rb) (pointee-ok a U r ra) run (pointed b T r rb z)))))
+      (rw (← (distance-close (v .map k) m (ok .types) T (pointee-ok b T r rb) d))
+      (stands-field m (ok .types) (heapTyping m v (suc k)) heap (close (v .map k) T) (close (v .map k) U) (v .map k (r .number)) (v .reg k b) d (pointed b T r rb z)
+      (run-close (v .map k) m (ok .types) T (pointee-ok b T r rb) U (pointee-ok a U r ra) d run))))))
   kind-safe e (t-index {a} {b} {c} {n = count} {r} {T} rb rc ra) n =
       need-safe (Safe m v k) (decHeld m form v k (top m v k) b) _ (held b (rb .0))
       (need-safe (Safe m v k) (decHeld m form v k (top m v k) c) _ (held c (rc .0))
@@ -420,29 +425,32 @@ module _ (m : Module) (ok : ModuleFacts m) (form : Bytes) (bytes : AllBytes form
       notZero-safe (Safe m v k) (v .reg k b) _ (listed 31 (omega arith) (omega arith))
       (λ z. split-lt (Safe m v k) (v .reg k c) count (set a (v .reg k b + v .reg k c * size m T)) (stop 33)
       (λ h. set-run a T r (v .reg k b + v .reg k c * size m T) ra n
-      (stands-element m (ok .types) (heapTyping m v (suc k)) (v .map k) T count (v .map k (r .number)) (v .reg k b) (v .reg k c) (pointee-ok b (arr count T) r rb) (pointee-ok a T r ra) h (pointed b (arr count T) r rb z)))
+      (rw (← (size-close (v .map k) m T))
+      (stands-index m (ok .types) (heapTyping m v (suc k)) heap count (close (v .map k) T) (v .map k (r .number)) (v .reg k b) (v .reg k c)
+      (rw (close-arr (v .map k) count T) at (good-close (v .map k) m (arr count T) (pointee-ok b (arr count T) r rb))) h
+      (rw (close-arr (v .map k) count T) at (pointed b (arr count T) r rb z)))))
       (λ h. listed 33 (omega arith) (omega arith))))))
   kind-safe e (t-load {a} {b} {r} {T} rb ra) n =
       need-safe (Safe m v k) (decHeld m form v k (top m v k) b) _ (held b (rb .0))
       (notZero-safe (Safe m v k) (v .reg k b) _ (listed 31 (omega arith) (omega arith)) (λ z.
-      let prim : Primitive T = subst (λ (U : Tree variable). Primitive U) (ra .1) (facts .primitive a (ra .0)) in
+      let prim : Primitive T = subst (λ (U : Tree variable). Primitive U) (ra .1) (facts .registerPrimitive a (ra .0)) in
       rw (ra .1) (record {
         register = ra .0;
         next = n;
         slot = rw (ra .1) (slot-of b T r prim rb z);
-        bytes = rw (ra .1) (sym (sub-width (λ x. region (v .map k (x .number))) T));
+        bytes = rw (ra .1) (sym (close-width (v .map k) T));
         touches = touches b T r prim rb z;
       })))
   kind-safe e (t-store {a} {b} {r} {T} ra rb) n =
       need-safe (Safe m v k) (decHeld m form v k (top m v k) a) _ (held a (ra .0))
       (need-safe (Safe m v k) (decHeld m form v k (top m v k) b) _ (held b (rb .0))
       (notZero-safe (Safe m v k) (v .reg k a) _ (listed 31 (omega arith) (omega arith)) (λ z.
-      let prim : Primitive T = subst (λ (U : Tree variable). Primitive U) (rb .1) (facts .primitive b (rb .0)) in
+      let prim : Primitive T = subst (λ (U : Tree variable). Primitive U) (rb .1) (facts .registerPrimitive b (rb .0)) in
       rw (rb .1) (record {
         type = close (v .map k) T;
         next = n;
         slot = slot-of a T r prim ra z;
-        bytes = sym (sub-width (λ x. region (v .map k (x .number))) T);
+        bytes = sym (close-width (v .map k) T);
         value = subst (λ (U : Tree variable). Value m (heapTyping m v (suc k)) (close (v .map k) U) (v .reg k b)) (rb .1) (held b (rb .0));
         touches = touches a T r prim ra z;
       }))))

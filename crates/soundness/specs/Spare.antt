@@ -17,7 +17,7 @@ use Rattle.rules.specs.Step.{closes}
 use Rattle.rules.specs.StateTest.{MarksEnd, SpareOk}
 use Rattle.state.specs.Update.{upd, upd-same, upd-other, upd-cases, upd2}
 use Rattle.state.specs.Apply.{wrote, moved, saved, marked, granted, counted, pushed, closed, closedOwner, became}
-use Rattle.soundness.specs.Facts.{FunctionFacts, ModuleFacts}
+use Rattle.soundness.specs.Facts.{ModuleOk}
 use Rattle.soundness.specs.Good.{Good}
 use Rattle.soundness.specs.Preserve.{upd2-cases, SafePush, open-kept, left-owner, live-kept}
 
@@ -92,7 +92,7 @@ spare-granted m v n p r g c z = record {
     go q l x o i h w (yes e) = g .marks q l i h (ap (v .owner) e ∙ z)
     go q l x o i h w (no d) = of-ends m v n q (v .owner q) (c .marks q l) x (sym (upd-other (v .owner) p (suc r) q d) ∙ o) i h w
 
-pub spare-pushed : (m : Module) (ok : ModuleFacts m) (v : View) (k g : ℕ) (μ ρ : ℕ → ℕ) → Good m v (suc k) → SafePush m v k g μ ρ → SpareOk m v (suc k) → SpareOk m (pushed k g μ ρ v) (suc (suc k))
+pub spare-pushed : (m : Module) (ok : ModuleOk m) (v : View) (k g : ℕ) (μ ρ : ℕ → ℕ) → Good m v (suc k) → SafePush m v k g μ ρ → SpareOk m v (suc k) → SpareOk m (pushed k g μ ρ v) (suc (suc k))
 spare-pushed m ok v k g μ ρ y f c = record {
   functions = λ j l h. upd-other (v .fn) (suc k) g j (omega arith) ∙ c .functions j l (omega arith);
   instructions = λ j l h. upd-other (v .pc) (suc k) 0 j (omega arith) ∙ c .instructions j l (omega arith);
@@ -117,7 +117,7 @@ spare-pushed m ok v k g μ ρ y f c = record {
         ap (λ (x : ℕ). upd (v .map) (suc k) μ x i) e ∙ ap (λ (x : ℕ → ℕ). x i) (upd-same (v .map) (suc k) μ) ∙ f .spare i (rw (e, upd-same (v .fn) (suc k) g) at l)
     entry j h i o l (no d) = ap (λ (x : ℕ → ℕ). x i) (upd-other (v .map) (suc k) μ j d) ∙ c .maps j (omega arith) i o (rw (upd-other (v .fn) (suc k) g j d) at l)
 
-pub spare-closed : (m : Module) (ok : ModuleFacts m) (v : View) (k : ℕ) → Good m v (suc k) → SpareOk m v (suc k) → SpareOk m (closed m k v) k
+pub spare-closed : (m : Module) (ok : ModuleOk m) (v : View) (k : ℕ) → Good m v (suc k) → SpareOk m v (suc k) → SpareOk m (closed m k v) k
 spare-closed m ok v k g c = record {
   functions = λ j l h. upd-cases (λ (x : ℕ). x ≡ 0) (v .fn) k 0 j (λ e. refl) (λ e. c .functions j l (omega arith));
   instructions = λ j l h. upd-cases (λ (x : ℕ). x ≡ 0) (v .pc) k 0 j (λ e. refl) (λ e. c .instructions j l (omega arith));

@@ -34,7 +34,7 @@ use Rattle.typing.specs.Walk.{Fits, good, some-function}
 -- ---- refusals 1 to 4 find nothing
 
 pub record Framed (f : Bytes) : Type 0 where
-  pub length : lengthRight f ≡ true
+  pub fileLength : lengthRight f ≡ true
   pub places : (i : ℕ) → i < blocks f → placeRight f i ≡ true
   pub checks : (i : ℕ) → i < blocks f → checkRight f i ≡ true
   pub records : (r : ℕ) → r ≤ records f → recordTest f r ≡ true
@@ -78,7 +78,7 @@ head-ranges f ss ts h e =
       params = leb-true (parametersOf x) mostEntries (left (leb (parametersOf x) mostEntries) (leb (parametersOf x) (x .c)) p);
       fewParams = leb-true (parametersOf x) (x .c) (right (leb (parametersOf x) mostEntries) (leb (parametersOf x) (x .c)) p);
       some = leb-true 1 (instructionsOf x) (left (leb 1 (instructionsOf x)) (leb (instructionsOf x) mostInstructions) q);
-      length = leb-true (instructionsOf x) mostInstructions (right (leb 1 (instructionsOf x)) (leb (instructionsOf x) mostInstructions) q);
+      instructions = leb-true (instructionsOf x) mostInstructions (right (leb 1 (instructionsOf x)) (leb (instructionsOf x) mostInstructions) q);
     }
 
 module _ (f : Bytes) (ok : Fits f) where
@@ -114,7 +114,7 @@ passes-accepted f a =
 
 pub framed : (f : Bytes) → IsAccepted (verdictOf f) → Framed f
 framed f a = let p = no-failure f a in record {
-  length = p .0 0 (omega arith);
+  fileLength = p .0 0 (omega arith);
   places = λ i h. sym (even-test f i) ∙ p .1 .0 (2 * i) (omega arith);
   checks = λ i h. sym (odd-test f i) ∙ p .1 .0 (2 * i + 1) (omega arith);
   records = λ r h. p .1 .1 .0 r (omega arith);
@@ -152,7 +152,7 @@ unfolding moduleStages termTest structTest functionTest instructionTest instruct
 complete f w t =
     let m = moduleOf f in
     passes-accepted f (
-      (λ j h. w .length),
+      (λ j h. w .fileLength),
       (
         block-passes f w,
         (

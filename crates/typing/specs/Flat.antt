@@ -12,7 +12,7 @@ use Rattle.rules.specs.Limits.{sizeLimit}
 use Rattle.rules.specs.Decide.{Each, more}
 use Rattle.rules.specs.Types.{RegionKind, variable, Tree, int, ptr, arr, struct}
 use Rattle.rules.specs.Module.{Module}
-use Rattle.rules.specs.Flat.{Layout, none, packed, beside, copiesOf, copies, subLayout, flatWith, fieldsWith, layouts, flat, structFlat, size}
+use Rattle.rules.specs.Flat.{Layout, none, empty, packed, beside, copiesOf, copies, subLayout, flatWith, fieldsFrom, fieldsWith, layouts, flat, structFlat, size}
 use Rattle.typing.specs.Lists.{getD-left, getD-last, getD-past}
 use Rattle.typing.specs.Types.{Deep, deep-int, deep-ptr, deep-arr, deep-struct, width-small, DeepModule}
 
@@ -29,12 +29,12 @@ copies-some {k} n L h l = go (leb (n * L .size) sizeLimit)
     go true = let e = copiesOf-size n L in let p = mul-le-mul-left n l in omega (arith, e, p)
     go false = omega arith
 
-beside-some : (L M : Layout variable) → 0 < L .size → 0 < beside L M .size
+beside-some : (L M : Layout variable) → 0 < L .size + M .size → 0 < beside L M .size
 unfolding beside
 beside-some L M h = go (leb (L .size + M .size) sizeLimit)
   where
     go : (b : Bool) → 0 < (cond b (packed L M) (none {k = variable})) .size
-    go true = omega arith
+    go true = h
     go false = omega arith
 
 -- each layout of the list has a byte
@@ -48,10 +48,15 @@ flat-some ls (ptr T r) l (deep-ptr k d) = omega arith
 flat-some ls (arr n T) l (deep-arr k a b d) = copies-some n (flatWith ls T) a (flat-some ls T l d)
 flat-some ls (struct N rs) l (deep-struct k) = l N
 
+from-some : (ls : List (Layout variable)) (L : Layout variable) (Ts : List (Tree variable)) → 0 < L .size → 0 < fieldsFrom ls L Ts .size
+unfolding fieldsFrom
+from-some ls L [] h = h
+from-some ls L (T ∷ Ts) h = from-some ls (beside L (flatWith ls T)) Ts (beside-some L (flatWith ls T) (omega arith))
+
 fields-some : {m : Module} (ls : List (Layout variable)) (Ts : List (Tree variable)) → Filled ls → 0 < length Ts → Each (Deep m) Ts → 0 < fieldsWith ls Ts .size
-unfolding fieldsWith
+unfolding fieldsWith fieldsFrom
 fields-some ls [] l h e = absurd (omega arith)
-fields-some ls (T ∷ Ts) l h (more d e) = beside-some (flatWith ls T) (fieldsWith ls Ts) (flat-some ls T l d)
+fields-some ls (T ∷ Ts) l h (more d e) = from-some ls (beside empty (flatWith ls T)) Ts (beside-some empty (flatWith ls T) (omega (arith, flat-some ls T l d)))
 
 pub layouts-length : (m : Module) (n : ℕ) → length (layouts m n) ≡ n
 unfolding layouts

@@ -27,7 +27,7 @@ use Rattle.rules.specs.declared.Verdict.the-variants.{Accepted, Refused}
 use Rattle.typing.specs.Stages.{Passes, Fails, FirstOf}
 use Rattle.typing.specs.Walk.{Fits, endOf, skip, skip-from, skip-less, place-at, code-from, end-from, good}
 use Rattle.typing.specs.Accepted.{even-test, odd-test, module-ranges}
-use Rattle.typing.specs.Refused.{Passed, Where, length, block, record-at, term, struct, function, instruction, last, where-refused, not-lower, broken-number, function-test}
+use Rattle.typing.specs.Refused.{Passed, Where, fileLength, block, record-at, term, struct, function, instruction, last, where-refused, not-lower, broken-number, function-test}
 
 -- "2 place or count of a block, 3 its check: block by block, 2 first": 2 and 3 stand in one row, two steps for each block
 abbrev pub row : ℕ → ℕ
@@ -141,7 +141,7 @@ module _ (f : Bytes) where
   Meaning (suc (suc (suc (suc (suc (suc (suc (suc k)))))))) q = BadLast q
 
   meaning : {m q : ℕ} → Broken f m q → Meaning m q
-  meaning (Broken.length e) = tt
+  meaning (Broken.fileLength e) = tt
   meaning (Broken.place i h e) = (h, e)
   meaning (Broken.check i h e) = (h, e)
   meaning (Broken.fault r h e) = e
@@ -218,7 +218,7 @@ module _ (f : Bytes) where
 
   none-before : (n p : ℕ) → Where f n p → {m q : ℕ} → Broken f m q → Earlier m q n p → ⊥
   unfolding termTest structTest instructionTest instructionStage lastTest
-  none-before n p (length a h) {m} {q} b l = go (earlier-at m q (h .number) (h .place) l)
+  none-before n p (fileLength a h) {m} {q} b l = go (earlier-at m q (h .number) (h .place) l)
     where
       go : Earlier m q 1 0 → ⊥
       go (inl z) = lower a b z (λ e. omega arith)

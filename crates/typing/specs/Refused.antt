@@ -42,7 +42,7 @@ first-failure f n p e = only (first-in (stages f) (acceptedAs (moduleOf f)) n p 
 
 -- the stages of lower numbers pass
 pub record Passed (f : Bytes) (k : ℕ) : Type 0 where
-  pub length : 1 < k → Passes (lengthStage f)
+  pub fileLength : 1 < k → Passes (lengthStage f)
   pub blocks : 3 < k → Passes (blockStage f)
   pub records : 4 < k → Passes (recordStage f)
   pub terms : 5 < k → Passes (termStage (moduleOf f))
@@ -53,7 +53,7 @@ pub record Passed (f : Bytes) (k : ℕ) : Type 0 where
 
 -- where the first failure is
 pub data Where (f : Bytes) (n p : ℕ) : Type 0 where
-  length : Passed f 1 → Fails (lengthStage f) n p → Where f n p
+  fileLength : Passed f 1 → Fails (lengthStage f) n p → Where f n p
   block : Passed f 2 → Fails (blockStage f) n p → Where f n p
   record-at : Passed f 4 → Fails (recordStage f) n p → Where f n p
   term : Passed f 5 → Fails (termStage (moduleOf f)) n p → Where f n p
@@ -64,8 +64,8 @@ pub data Where (f : Bytes) (n p : ℕ) : Type 0 where
 
 where-first : (f : Bytes) (n p : ℕ) → FirstIn (stages f) n p → Where f n p
 unfolding moduleStages
-where-first f n p (here h) = length (record {
-  length = λ l. absurd (omega arith);
+where-first f n p (here h) = fileLength (record {
+  fileLength = λ l. absurd (omega arith);
   blocks = λ l. absurd (omega arith);
   records = λ l. absurd (omega arith);
   terms = λ l. absurd (omega arith);
@@ -75,7 +75,7 @@ where-first f n p (here h) = length (record {
   lasts = λ l. absurd (omega arith);
 }) h
 where-first f n p (later a (here h)) = block (record {
-  length = λ l. a;
+  fileLength = λ l. a;
   blocks = λ l. absurd (omega arith);
   records = λ l. absurd (omega arith);
   terms = λ l. absurd (omega arith);
@@ -85,7 +85,7 @@ where-first f n p (later a (here h)) = block (record {
   lasts = λ l. absurd (omega arith);
 }) h
 where-first f n p (later a (later b (here h))) = record-at (record {
-  length = λ l. a;
+  fileLength = λ l. a;
   blocks = λ l. b;
   records = λ l. absurd (omega arith);
   terms = λ l. absurd (omega arith);
@@ -95,7 +95,7 @@ where-first f n p (later a (later b (here h))) = record-at (record {
   lasts = λ l. absurd (omega arith);
 }) h
 where-first f n p (later a (later b (later c (here h)))) = term (record {
-  length = λ l. a;
+  fileLength = λ l. a;
   blocks = λ l. b;
   records = λ l. c;
   terms = λ l. absurd (omega arith);
@@ -105,7 +105,7 @@ where-first f n p (later a (later b (later c (here h)))) = term (record {
   lasts = λ l. absurd (omega arith);
 }) h
 where-first f n p (later a (later b (later c (later d (here h))))) = struct (record {
-  length = λ l. a;
+  fileLength = λ l. a;
   blocks = λ l. b;
   records = λ l. c;
   terms = λ l. d;
@@ -115,7 +115,7 @@ where-first f n p (later a (later b (later c (later d (here h))))) = struct (rec
   lasts = λ l. absurd (omega arith);
 }) d h
 where-first f n p (later a (later b (later c (later d (later e (here h)))))) = function (record {
-  length = λ l. a;
+  fileLength = λ l. a;
   blocks = λ l. b;
   records = λ l. c;
   terms = λ l. d;
@@ -130,7 +130,7 @@ where-first f n p (later a (later b (later c (later d (later e (later k h)))))) 
     go : FirstIn (listOf (instructionStage f (moduleOf f)) (moduleOf f .functions)) n p
         ⊎ (AllPass (listOf (instructionStage f (moduleOf f)) (moduleOf f .functions)) × FirstIn (lastStage f (moduleOf f) ∷ []) n p) → Where f n p
     go (inl h) = instruction (record {
-      length = λ l. a;
+      fileLength = λ l. a;
       blocks = λ l. b;
       records = λ l. c;
       terms = λ l. d;
@@ -143,7 +143,7 @@ where-first f n p (later a (later b (later c (later d (later e (later k h)))))) 
       where
         at : FirstIn (lastStage f (moduleOf f) ∷ []) n p → Where f n p
         at (here l) = last (record {
-          length = λ l. a;
+          fileLength = λ l. a;
           blocks = λ l. b;
           records = λ l. c;
           terms = λ l. d;
@@ -187,7 +187,7 @@ module _ (f : Bytes) (n p : ℕ) where
 
   broken-there : Where f n p → Broken f n p
   unfolding termTest structTest instructionTest instructionStage lastTest
-  broken-there (length a h) = at-place (h .number) (h .place) (Broken.length (h .fails))
+  broken-there (fileLength a h) = at-place (h .number) (h .place) (Broken.fileLength (h .fails))
   broken-there (block a h) = block-broken h
   broken-there (record-at a h) = at-place (h .number) (h .place) (Broken.fault (h .j) (omega (arith, h .inside)) (h .fails))
   broken-there (term a h) = at-place (h .number) (h .place) (Broken.term (h .j) (h .inside) (does-false (decTerm (moduleOf f) (moduleOf f .term (h .j))) (h .fails)))
@@ -213,7 +213,7 @@ function-test f g e = does-true (decBoth (decFunction (moduleOf f .function g)) 
 
 pub not-lower : (f : Bytes) (k : ℕ) → Passed f k → {m q : ℕ} → Broken f m q → (m ≡ 2 → 3 < k) → m < k → ⊥
 unfolding termTest structTest instructionTest instructionStage lastTest
-not-lower f k a (Broken.length e) b h = false≢true (sym e ∙ a .length h 0 (omega arith))
+not-lower f k a (Broken.fileLength e) b h = false≢true (sym e ∙ a .fileLength h 0 (omega arith))
 not-lower f k a (Broken.place i l e) b h = false≢true (sym e ∙ (sym (even-test f i) ∙ a .blocks (b refl) (2 * i) (omega arith)))
 not-lower f k a (Broken.check i l e) b h = false≢true (sym e ∙ (sym (odd-test f i) ∙ a .blocks h (2 * i + 1) (omega arith)))
 not-lower f k a (Broken.fault r l e) b h = false≢true (sym e ∙ a .records h r (omega arith))
@@ -226,7 +226,7 @@ not-lower f k a (Broken.instruction g i l j e) b h =
 not-lower f k a (Broken.last g l e) b h = e (does-true (decLast (moduleOf f .function g .code (moduleOf f .function g .length - 1))) (a .lasts h g l))
 
 pub broken-number : {f : Bytes} {m q : ℕ} → Broken f m q → (1 ≤ m) × (m ≤ 8)
-broken-number (Broken.length e) = (omega arith, omega arith)
+broken-number (Broken.fileLength e) = (omega arith, omega arith)
 broken-number (Broken.place i l e) = (omega arith, omega arith)
 broken-number (Broken.check i l e) = (omega arith, omega arith)
 broken-number (Broken.fault r l e) = (omega arith, omega arith)
@@ -245,7 +245,7 @@ accepted-whole f n p a b =
     let d = all .1 .1 .1 in
     let e = pass-append (listOf (instructionStage f (moduleOf f)) (moduleOf f .functions)) (lastStage f (moduleOf f) ∷ []) (d .1 .1 .1) in
     not-lower f 9 (record {
-      length = λ l. all .0;
+      fileLength = λ l. all .0;
       blocks = λ l. all .1 .0;
       records = λ l. all .1 .1 .0;
       terms = λ l. d .0;
