@@ -379,7 +379,7 @@ module _ (m : Module) (ok : ModuleOk m) (form : Bytes) (bytes : AllBytes form) (
       subst (λ (i : Instruction). GoesOn i (v .pc c) (m .function (v .fn c) .length)) (h .site .is) (caller .goesOn (v .pc c) (g .frames .stands c below)) in
       let popped : SafePop m v k c (h .site .result) (v .reg k a) = record { caller = sym e; register = rule .result .0; next = on; value = rw same at (held a (r .0)) } in
       need-safe (Safe m v k) (ℕ-discrete (h .site .callee) (v .fn k)) _ (l .callee ∙ ap (v .fn) e)
-      (need-safe (Safe m v k) (decLt (h .site .result) (m .function (v .fn c) .registers)) (pop c (h .site .result) (v .reg k a)) (rule .result .0) popped))
+      (need-safe (Safe m v k) (decTyped m (m .function (v .fn c)) (m .function (v .fn c) .code (v .pc c))) (pop c (h .site .result) (v .reg k a)) (caller .typed (v .pc c) (g .frames .stands c below)) popped))
 
   -- ---- all kinds
 
@@ -492,7 +492,8 @@ module _ (m : Module) (ok : ModuleOk m) (form : Bytes) (bytes : AllBytes form) (
   unfolding effectAt
   progress =
       let typed = facts .typed (v .pc k) (g .frames .stands k low) in
-      need-safe (Safe m v k) (decLt (v .fn k) (m .functions)) _ (g .frames .known k low)
+      need-safe (Safe m v k) (decLt k mostFrames) _ (g .frames .few)
+      (need-safe (Safe m v k) (decLt (v .fn k) (m .functions)) _ (g .frames .known k low)
       (need-safe (Safe m v k) (decLt (v .pc k) (top m v k .length)) _ (g .frames .stands k low)
       (need-safe (Safe m v k) (decTyped m (top m v k) (top m v k .code (v .pc k))) _ typed
-      (kind-safe refl typed (facts .goesOn (v .pc k) (g .frames .stands k low)))))
+      (kind-safe refl typed (facts .goesOn (v .pc k) (g .frames .stands k low))))))
