@@ -7,3 +7,4 @@ pub mod Spare
 pub mod Safe
 pub mod Operations
 pub mod Progress
+pub mod Step
