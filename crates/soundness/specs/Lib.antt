@@ -8,3 +8,4 @@ pub mod Safe
 pub mod Operations
 pub mod Progress
 pub mod Step
+pub mod Bridge
