@@ -9,3 +9,4 @@ pub mod Operations
 pub mod Progress
 pub mod Step
 pub mod Bridge
+pub mod Bounds
