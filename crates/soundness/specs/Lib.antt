@@ -10,3 +10,4 @@ pub mod Progress
 pub mod Step
 pub mod Bridge
 pub mod Bounds
+pub mod Opening
