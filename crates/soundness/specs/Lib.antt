@@ -11,3 +11,4 @@ pub mod Step
 pub mod Bridge
 pub mod Bounds
 pub mod Opening
+pub mod Sound
