@@ -12,3 +12,4 @@ pub mod Bridge
 pub mod Bounds
 pub mod Opening
 pub mod Sound
+pub mod Demand3
