@@ -1,13 +1,14 @@
 -- The laws of substitution for a type closed by a region map, as soundness uses them: what a frame's map keeps. Assumes nothing.
-use mathlib.Core.Path.{_≡_, refl}
+use mathlib.Core.Path.{_≡_, refl, subst}
 use Prim.Native.Nat.{ℕ}
-use Rattle.rules.specs.Types.{variable, Variable, LiveRegion, region, Tree, int, ptr, arr, width, sub, Primitive}
+use Rattle.rules.specs.Types.{variable, live, Variable, LiveRegion, region, Tree, int, ptr, arr, width, sub, Uses, Primitive}
 use Rattle.rules.specs.Module.{Module}
-use Rattle.rules.specs.Flat.{subLayout, flat, size, count, distance, Run, RunAt, Same}
+use Rattle.rules.specs.Flat.{Has, Layout, subLayout, flat, size, count, distance, Run, RunAt, Same}
 use Rattle.rules.specs.Heap.{close}
 use Rattle.layout.specs.TypesOk.{GoodTree, TypesOk}
 use Rattle.layout.specs.Types.{sub-width, sub-prim, prim-sub}
-use Rattle.layout.specs.Flat.{size-sub, good-sub, flat-sub, count-flat-sub}
+use Rattle.layout.specs.Prims.{has-placed-inv}
+use Rattle.layout.specs.Flat.{size-sub, good-sub, flat-sub, count-flat-sub, has-uses}
 use Rattle.layout.specs.Runs.{flat-distance-sub, run-sub, runAt-sub, same-sub}
 
 -- a region map as a substitution
@@ -52,6 +53,13 @@ module _ (μ : ℕ → ℕ) where
 
     pub distance-close : (q : ℕ) → distance (flat m (close μ T)) q ≡ distance (flat m T) q
     distance-close q = flat-distance-sub (mapped μ) m ok T g q
+
+    -- a primitive of the closed type is one of the written type, closed
+    pub has-close : (n d : ℕ) (P : Tree live) → Uses n T → Has (flat m (close μ T) .prims) d P → (U : Tree variable) × Uses n U × (P ≡ close μ U)
+    unfolding subLayout
+    has-close n d P u h =
+        let c = has-placed-inv (mapped μ) (flat m T .prims) (subst (λ (L : Layout live). Has (L .prims) d P) flat-close h) in
+        (c .0, has-uses m ok n T g u (c .1), c .2)
 
     module _ (U : Tree variable) (h : GoodTree m U) where
       pub run-close : (q : ℕ) → Run (flat m T) q (flat m U) → Run (flat m (close μ T)) q (flat m (close μ U))

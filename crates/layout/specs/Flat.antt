@@ -1,7 +1,7 @@
 -- Laws of flat types: what `flat` gives for each form; primitives lie in order, apart and inside the size, start at 0 and cover
 -- every byte; sizes; flat types under substitution. What a law asks of the module stands in `TypesOk` and `GoodTree`.
 use mathlib.Core.Path.{_≡_, refl, sym, ap, _∙_, subst}
-use mathlib.Core.Logic.{_⊎_, inl, inr}
+use mathlib.Core.Logic.{_⊎_, inl, inr, ⊎-elim}
 use mathlib.Core.Bool.{cond}
 use mathlib.Core.List.{List, [], _∷_, _++_, map}
 use Prim.Native.Nat.{ℕ, zero, suc, _+_, _-_, _*_, _≤_, _<_}
@@ -37,6 +37,10 @@ module _ {k : RegionKind} (m : Module) where
   flat-prim (ptr T r) p = refl
   flat-prim (arr n T) p = elim p [ ]
   flat-prim (struct N rs) p = elim p [ ]
+
+  -- a primitive is its own run
+  pub has-whole : (T : Tree k) → Primitive T → Has (flat m T .prims) 0 T
+  has-whole T p = subst (λ (L : Layout k). Has (L .prims) 0 T) (sym (flat-prim T p)) here
 
   pub size-prim : (T : Tree k) → Primitive T → size m T ≡ width T
   size-prim T p = ap (λ (L : Layout k). L .size) (flat-prim T p)
@@ -203,6 +207,52 @@ filled-made = record {
 -- every byte of what has a size lies in one of its primitives
 pub filled : {k : RegionKind} (m : Module) (T : Tree k) → size m T ≤ sizeLimit → (i : ℕ) → i < size m T → Covered (flat m T .prims) i
 filled m T h = all-flat (λ k L. L .size ≤ sizeLimit → (i : ℕ) → i < L .size → Covered (L .prims) i) filled-made m T h
+
+-- what has a primitive has a size, or is one itself
+Small : {k : RegionKind} → Layout k → Type 0
+Small L = (L .size ≤ sizeLimit) ⊎ (count L ≡ 0)
+
+small-copies : {k : RegionKind} (n : ℕ) (L : Layout k) → Small (copies n L)
+unfolding Small copies
+small-copies n L =
+    split-le (λ M. (M .size ≤ sizeLimit) ⊎ (count M ≡ 0)) (n * L .size) sizeLimit (copiesOf n L) noLayout
+    (λ h. inl (omega (arith, size-copiesOf n L))) (λ _. inr refl)
+
+small-beside : (L M : Layout variable) → Small (beside L M)
+unfolding Small beside
+small-beside L M =
+    split-le (λ N. (N .size ≤ sizeLimit) ⊎ (count N ≡ 0)) (L .size + M .size) sizeLimit (packed L M) noLayout (λ h. inl h) (λ _. inr refl)
+
+small-from : (ls : List (Layout variable)) (L : Layout variable) (Ts : List (Tree variable)) → Small L → Small (fieldsFrom ls L Ts)
+unfolding fieldsFrom
+small-from ls L [] h = h
+small-from ls L (T ∷ Ts) h = small-from ls (beside L (flatWith ls T)) Ts (small-beside L (flatWith ls T))
+
+small-fields : (ls : List (Layout variable)) (Ts : List (Tree variable)) → Small (fieldsWith ls Ts)
+unfolding Small fieldsWith
+small-fields ls Ts = small-from ls empty Ts (inl (omega arith))
+
+small-layouts : (m : Module) (n N : ℕ) → Small (getD (layouts m n) N noLayout)
+unfolding Small layouts
+small-layouts m zero N = inr refl
+small-layouts m (suc n) N =
+    snoc-cases (λ _ M. (M .size ≤ sizeLimit) ⊎ (count M ≡ 0)) (layouts m n) (fieldsWith (layouts m n) (m .fields n)) noLayout (λ i _. small-layouts m n i)
+    (small-fields (layouts m n) (m .fields n)) (λ _ _. inr refl) N
+
+pub flat-small : {k : RegionKind} (m : Module) (T : Tree k) → 0 < count (flat m T) → (size m T ≤ sizeLimit) ⊎ Primitive T
+unfolding flat flatWith subLayout Small
+flat-small m (int w) h = inr integer
+flat-small m (ptr T r) h = inr pointer
+flat-small m (arr n T) h =
+    ⊎-elim (λ s. inl s) (λ z. absurd (omega arith)) (small-copies n (flatWith (layouts m (m .structs)) T))
+flat-small m (struct N rs) h =
+    ⊎-elim (λ s. inl s) (λ z. absurd (omega (arith, count-sub (arg rs) (getD (layouts m (m .structs)) N noLayout)))) (small-layouts m (m .structs) N)
+
+pub filled-some : {k : RegionKind} (m : Module) (T : Tree k) → 0 < count (flat m T) → (i : ℕ) → i < size m T → Covered (flat m T .prims) i
+filled-some m T h i l =
+    ⊎-elim (λ s. filled m T s i l)
+    (λ p. record { distance = 0; type = T; has = has-whole m T p; low = omega arith; high = omega (arith, size-prim m T p) })
+    (flat-small m T h)
 
 -- ---- widths: every primitive of a good type is an integer of 1, 2 or 4 bytes, or a pointer
 

@@ -1,66 +1,23 @@
 -- Laws of values over heap typings: what keeps a value one, zero, runs in runs at addresses, new objects, slots (primitives of
 -- objects in pages) that are one or lie apart, and the bytes of a run inside one object. About heap typings, not about bytes.
--- What a law asks of the module and the heap typing stands in `TypesOk`, `GoodTree` and `HeapOk`.
+-- What a law asks of the module stands in `TypesOk` and `GoodTree`.
 use mathlib.Core.Path.{_≡_, refl, sym, ap, ap₂, _∙_, subst}
 use mathlib.Core.Logic.{_⊎_, inl, inr}
 use Prim.Native.Nat.{ℕ, zero, suc, _+_, _-_, _*_, _^_, _/_, _%_, _<_, _≤_}
 use native.Mathlib.Nat.{mod-lt, div-add-mod, mul-le-mul-left, suc-inj}
 use native.Mathlib.Decide.{decLt}
 use native.Mathlib.Omega.{arith}
-use lib.Dec.{eqb}
-use Rattle.words.specs.Choose.{cond-split}
-use Rattle.rules.specs.Limits.{sizeLimit, pages, pageBytes, memoryBytes}
-use Rattle.rules.specs.Types.{variable, live, Variable, region, Tree, int, ptr, arr, struct, width, sub, Uses, Primitive, integer, pointer}
+use Rattle.rules.specs.Limits.{pages, pageBytes, memoryBytes}
+use Rattle.rules.specs.Types.{variable, live, Variable, region, Tree, int, ptr, arr, struct, width, sub, Primitive, integer, pointer}
 use Rattle.rules.specs.Module.{Module}
-use Rattle.rules.specs.Flat.{at, type, Has, Layout, subLayout, flat, size, count, distance, Run, RunAt, Same}
-use Rattle.rules.specs.State.{View}
-use Rattle.rules.specs.Heap.{close, HeapTyping, heapTyping, Stands, Value, look, typeOf}
+use Rattle.rules.specs.Flat.{at, off, type, Has, flat, size, count, distance, Run, RunAt, Same}
+use Rattle.rules.specs.Heap.{close, HeapTyping, Stands, Value}
 use Rattle.rules.specs.Claim.{InObject, InRun}
-use Rattle.layout.specs.TypesOk.{GoodTree, good-arr, TypesOk}
-use Rattle.layout.specs.Types.{Outer, outer-close}
-use Rattle.layout.specs.Prims.{at-has, has-placed-inv}
-use Rattle.layout.specs.Flat.{size-prim, flat-inside, flat-apart, flat-has-prim, Apart, SamePlace, filled, distance-zero, Basic, has-basic, basic-wide, good-sub, flat-some, flat-sub, has-uses}
-use Rattle.layout.specs.Runs.{flat-ascending, run-has, run-run, run-prim, run-size, prim-run, same-run, same-sym, has-element, distance-element}
-
--- ---- the types of live regions
-
--- the types that have a size are good: a region that is not live has a type without bytes
-abbrev pub HeapOk : Module → HeapTyping → Type 0
-HeapOk m W = (r : ℕ) → 0 < size m (W .type r) → GoodTree m (W .type r)
-
-pub look-cases : (P : Tree live → Type 0) (μ : ℕ → ℕ) (t : ℕ → Tree live) (lo : ℕ) (old : ℕ → Tree live) (c r : ℕ)
-    → ((i : ℕ) → i < c → P (t (lo + i))) → P (old r) → P (look μ t lo old c r)
-unfolding look
-look-cases P μ t lo old zero r f h = h
-look-cases P μ t lo old (suc c) r f h =
-    cond-split P (eqb (μ (lo + c)) r) (t (lo + c)) (look μ t lo old c r) (λ _. f c (omega arith)) (λ _. look-cases P μ t lo old c r (λ i l. f i (omega arith)) h)
-
-pub typeOf-good : (m : Module) (fn : ℕ → ℕ) (map : ℕ → ℕ → ℕ) (n : ℕ)
-    → ((k i : ℕ) → k < n → i < m .function (fn k) .locals → GoodTree m (m .function (fn k) .regionType (m .function (fn k) .regionParams + i)))
-    → (r : ℕ) → 0 < size m (typeOf m fn map n r) → GoodTree m (typeOf m fn map n r)
-unfolding typeOf
-typeOf-good m fn map zero f r h = absurd (none h)
-  where
-    none : 0 < size {k = live} m (int 0) → ⊥
-    none l = let e : size {k = live} m (int 0) ≡ 0 = size-prim m (int 0) integer in omega arith
-typeOf-good m fn map (suc k) f r h =
-    look-cases (λ T. 0 < size m T → GoodTree m T) (map k) (λ i. close (map k) (m .function (fn k) .regionType i)) (m .function (fn k) .regionParams)
-    (typeOf m fn map k) (m .function (fn k) .locals) r
-    (λ i l _. good-sub (λ r. region (map k (r .number))) m (m .function (fn k) .regionType (m .function (fn k) .regionParams + i)) (f k i (omega arith) l))
-    (λ l. typeOf-good m fn map k (λ j i g. f j i (omega arith)) r l) h
-
--- of a state whose frames run functions of the module
-pub heap-ok : (m : Module) → TypesOk m → (v : View) (n : ℕ) → ((k : ℕ) → k < n → v .fn k < m .functions) → HeapOk m (heapTyping m v n)
-heap-ok m ok v n known r h =
-    typeOf-good m (v .fn) (v .map) n (λ k i l g. ok .regionTypes (v .fn k) (m .function (v .fn k) .regionParams + i) (known k l) (omega arith)) r h
-
--- the pointers in an object of a closed type point where the map leads
-pub outer-flat : (m : Module) → TypesOk m → (P : ℕ → Type 0) (μ : ℕ → ℕ) (n : ℕ) (T : Tree variable) → GoodTree m T → Uses n T
-    → ((i : ℕ) → i < n → P (μ i)) → {d : ℕ} {Q : Tree live} → Has (flat m (close μ T) .prims) d Q → Outer P Q
-unfolding subLayout
-outer-flat m ok P μ n T g u f {d} {Q} h =
-    let c = has-placed-inv (λ r. region (μ (r .number))) (flat m T .prims) (subst (λ (L : Layout live). Has (L .prims) d Q) (flat-sub m ok (λ r. region (μ (r .number))) T g) h) in
-    subst (Outer P) (sym (c .2)) (outer-close P μ n (c .0) (has-uses m ok n T g u (c .1)) f)
+use Rattle.layout.specs.TypesOk.{GoodTree, good-element, TypesOk}
+use Rattle.layout.specs.Types.{Outer}
+use Rattle.layout.specs.Prims.{has-at, at-has}
+use Rattle.layout.specs.Flat.{flat-inside, flat-apart, flat-has-prim, Apart, SamePlace, filled-some, distance-zero, has-basic, basic-wide, good-sized, flat-some}
+use Rattle.layout.specs.Runs.{flat-rising, flat-ascending, run-has, run-has-from, run-run, run-prim, run-size, prim-run-from, same-run, same-sym, has-element, distance-element}
 
 -- ---- the place of an address
 
@@ -144,6 +101,14 @@ value-zero m W (ptr T r) p = inl refl
 value-zero m W (arr n T) p = elim p [ ]
 value-zero m W (struct N rs) p = elim p [ ]
 
+-- a value fits its width
+pub value-bound : (m : Module) (W : HeapTyping) (T : Tree live) (v : ℕ) → Value m W T v → v < 256 ^ width T
+value-bound m W (int w) v h = h
+value-bound m W (ptr T r) v (inl z) = omega arith
+value-bound m W (ptr T r) v (inr h) = omega (arith, h .inside)
+value-bound m W (arr n T) v h = absurd h
+value-bound m W (struct N rs) v h = absurd h
+
 -- only primitives have values
 pub value-prim : (m : Module) (W : HeapTyping) (T : Tree live) (v : ℕ) → Value m W T v → Primitive T
 value-prim m W (int w) v h = integer
@@ -172,51 +137,42 @@ integer-value m W μ w v h = h
 
 -- ---- runs in runs, at addresses
 
-module _ (m : Module) (ok : TypesOk m) (W : HeapTyping) (heap : HeapOk m W) where
-  -- 23: what stands at a position of a run stands there
-  pub stands-field : (T U : Tree live) (r a q : ℕ) → Stands m W T r a → Run (flat m T) q (flat m U) → Stands m W U r (a + distance (flat m T) q)
-  stands-field T U r a q h s =
-      let good : GoodTree m (W .type r) = heap r (h .sized) in
+module _ (m : Module) (ok : TypesOk m) (W : HeapTyping) where
+  -- what stands at a position of a run stands there
+  pub stands-position : (T U : Tree live) (r a q : ℕ) → GoodTree m T → Run (flat m T) q (flat m U) → Stands m W T r a → Stands m W U r (a + distance (flat m T) q)
+  stands-position T U r a q g s h =
       let o : ℕ = a % pageBytes % size m (W .type r) in
       let n : ℕ = distance (flat m T) q in
-      let there : RunAt (flat m (W .type r)) (o + n) (flat m U) = run-run (flat m (W .type r)) (flat-ascending m ok (W .type r) good) o (flat m T) q (flat m U) (h .run) s in
-      let first = run-has (flat m (W .type r)) (o + n) (flat m U) there (at-has (flat m U .prims) 0 (at 0 (int 0)) (s .some)) in
+      let one = run-has-from (flat m T) q (flat m U) s (at-has (flat m U .prims) 0 (at 0 (int 0)) (s .some)) in
+      let wide = basic-wide (has-basic m ok T g one) in
+      let last = flat-inside m (W .type r) (run-has (flat m (W .type r)) o (flat m T) (h .run) one) in
       let spot = stands-spot m W T r a h in
       spot-stands m W U r (a + n) (a / pageBytes) (a % pageBytes / size m (W .type r)) (o + n)
       (record {
         inside = spot .inside;
         own = spot .own;
-        low = omega (arith, flat-inside m (W .type r) first, basic-wide (has-basic m ok (W .type r) good first));
+        low = omega (arith, last, wide);
         fits = spot .fits;
         address = omega (arith, spot .address);
       })
-      there
+      (run-run (flat m (W .type r)) (flat-rising m (W .type r)) o (flat m T) (flat-ascending m ok T g) q (flat m U) (h .run) s)
 
-  -- 24: an element stands i elements further
-  pub stands-index : (n : ℕ) (T : Tree live) (r a i : ℕ) → GoodTree m (arr n T) → i < n → Stands m W (arr n T) r a → Stands m W T r (a + i * size m T)
-  stands-index n T r a i (good-arr pos sized g) l h =
-      let some = flat-some m ok T g in
+  -- an element stands i elements further
+  pub stands-index : (T : Tree live) (n r a i : ℕ) → GoodTree m (arr n T) → i < n → Stands m W (arr n T) r a → Stands m W T r (a + i * size m T)
+  stands-index T n r a i g l h =
+      let sized = good-sized m (arr n T) g in
+      let some = flat-some m ok T (good-element g) in
       subst (λ (x : ℕ). Stands m W T r (a + x)) (distance-element m n T i l sized some)
-      (stands-field (arr n T) T r a (i * count (flat m T)) h (has-element m n T i l sized some))
+      (stands-position (arr n T) T r a (i * count (flat m T)) g (has-element m n T i l sized some) h)
 
   -- each primitive of a run stands at its distance
-  pub stands-has : (T : Tree live) (r a : ℕ) → Stands m W T r a → {d : ℕ} {P : Tree live} → Has (flat m T .prims) d P → Stands m W P r (a + d)
-  stands-has T r a h {d} {P} k =
-      let good : GoodTree m (W .type r) = heap r (h .sized) in
-      let o : ℕ = a % pageBytes % size m (W .type r) in
-      let one = run-has (flat m (W .type r)) o (flat m T) (h .run) k in
-      let spot = stands-spot m W T r a h in
-      spot-stands m W P r (a + d) (a / pageBytes) (a % pageBytes / size m (W .type r)) (o + d)
-      (record {
-        inside = spot .inside;
-        own = spot .own;
-        low = omega (arith, flat-inside m (W .type r) one, basic-wide (has-basic m ok (W .type r) good one));
-        fits = spot .fits;
-        address = omega (arith, spot .address);
-      })
-      (prim-run m (flat m (W .type r)) (flat-ascending m ok (W .type r) good) (o + d) P (flat-has-prim m T k) one)
+  pub stands-has : (T : Tree live) (r a : ℕ) → GoodTree m T → Stands m W T r a → {d : ℕ} {P : Tree live} → Has (flat m T .prims) d P → Stands m W P r (a + d)
+  stands-has T r a g h {d} {P} k =
+      let c = has-at k in
+      subst (λ (x : ℕ). Stands m W P r (a + x)) (ap off (c .is))
+      (stands-position T P r a (c .position) g (prim-run-from m (flat m T) d P (flat-has-prim m T k) c) h)
 
--- 27: what has the region's primitives stands at every place of the region's pages
+-- what has the region's primitives stands at every place of the region's pages
 pub stands-new : (m : Module) (W : HeapTyping) (T : Tree live) (r p j : ℕ) → p < pages → W .owner p ≡ suc r → 0 < size m (W .type r)
     → size m (W .type r) * suc j ≤ pageBytes → Same (flat m T) (flat m (W .type r)) → Stands m W T r (pageBytes * p + size m (W .type r) * j)
 stands-new m W T r p j inside own sized fits same =
@@ -328,24 +284,21 @@ module _ (m : Module) (W : HeapTyping) where
   pub slot-prim : (x : ℕ) (T : Tree live) → Slot m W x T → Primitive T
   slot-prim x T s = flat-has-prim m (W .type (s .region)) (s .has)
 
-  pub slot-basic : TypesOk m → HeapOk m W → (x : ℕ) (T : Tree live) (s : Slot m W x T) → 0 < size m (W .type (s .region)) → Basic T
-  slot-basic ok heap x T s h = has-basic m ok (W .type (s .region)) (heap (s .region) h) (s .has)
-
 -- ---- the bytes of a run
 
-module _ (m : Module) (W : HeapTyping) (T : Tree live) (r a : ℕ) (sized : size m T ≤ sizeLimit) (h : Stands m W T r a) where
+module _ (m : Module) (W : HeapTyping) (T : Tree live) (r a : ℕ) (h : Stands m W T r a) where
   -- the run lies inside the object
-  pub stands-size : a % pageBytes % size m (W .type r) + size m T ≤ size m (W .type r)
-  stands-size = run-size m (W .type r) T (a % pageBytes % size m (W .type r)) sized (h .run)
+  pub stands-inside : a % pageBytes % size m (W .type r) + size m T ≤ size m (W .type r)
+  stands-inside = run-size m (W .type r) T (a % pageBytes % size m (W .type r)) (h .run)
 
-  pub stands-object : (i : ℕ) → a ≤ i → i < a + size m T → InObject i (a / pageBytes) (a % pageBytes / size m (W .type r)) (size m (W .type r))
-  stands-object i low high =
+  pub stands-in-object : (i : ℕ) → a ≤ i → i < a + size m T → InObject i (a / pageBytes) (a % pageBytes / size m (W .type r)) (size m (W .type r))
+  stands-in-object i low high =
       let s = stands-spot m W T r a h in
-      record { low = omega (arith, s .address); high = omega (arith, s .address, stands-size); whole = s .fits }
+      record { low = omega (arith, s .address); high = omega (arith, s .address, stands-inside); whole = s .fits }
 
   -- and in its page, in memory
   pub stands-page : a % pageBytes + size m T ≤ pageBytes
-  stands-page = omega (arith, stands-spot m W T r a h .fits, div-add-mod (a % pageBytes) (size m (W .type r)), stands-size)
+  stands-page = omega (arith, stands-spot m W T r a h .fits, div-add-mod (a % pageBytes) (size m (W .type r)), stands-inside)
 
   pub stands-memory : a + size m T ≤ memoryBytes
   stands-memory = omega (arith, stands-page, h .inside)
@@ -353,5 +306,5 @@ module _ (m : Module) (W : HeapTyping) (T : Tree live) (r a : ℕ) (sized : size
   -- each of its bytes lies in a primitive of the run
   pub stands-bytes : (i : ℕ) → a ≤ i → i < a + size m T → InRun m T a i
   stands-bytes i low high =
-      let c = filled m T sized (i - a) (omega arith) in
+      let c = filled-some m T (h .run .some) (i - a) (omega arith) in
       record { distance = c .distance; type = c .type; has = c .has; low = omega (arith, c .low); high = omega (arith, c .high) }

@@ -2,7 +2,7 @@
 -- in runs, elements, equal primitives, runs under substitution, and that a run lies inside. What a law asks of the module stands
 -- in `TypesOk` and `GoodTree`.
 use mathlib.Core.Path.{_≡_, refl, sym, ap, ap₂, _∙_, subst}
-use mathlib.Core.Logic.{_⊎_, inl, inr}
+use mathlib.Core.Logic.{_⊎_, inl, inr, _≢_}
 use mathlib.Core.Bool.{Bool, not}
 use mathlib.Core.List.{List, [], _∷_, map}
 use Prim.Native.Nat.{ℕ, zero, suc, _+_, _-_, _*_, _≤_, _<_}
@@ -13,16 +13,16 @@ use lib.ListN.{length, getD, take, drop, length-take, length-drop, length-map, L
 use lib.Seq.{getD-take, getD-drop, getD-append-add, ext-getD, take-length}
 use borrow.Author.Tests.{eqb-true, eq-eqb, ne-eqb, not-false}
 use Rattle.words.specs.First.{first}
-use Rattle.words.specs.FirstLaws.{first-is, first-fails, first-agree}
-use Rattle.words.specs.Choose.{lt-or-le}
+use Rattle.words.specs.FirstLaws.{first-before, first-is, first-fails, first-agree}
+use Rattle.words.specs.Choose.{lt-or-le, true-not-false}
 use Rattle.rules.specs.Limits.{sizeLimit}
 use Rattle.rules.specs.Types.{RegionKind, Region, Tree, int, arr, width, sub, Primitive}
 use Rattle.rules.specs.Module.{Module}
 use Rattle.rules.specs.Flat.{Placed, at, off, type, Has, here, Layout, single, moved, packed, copiesOf, placedIn, subLayout, flat, size, count, distance, Run, RunAt, positionAt, Same}
 use Rattle.layout.specs.TypesOk.{GoodTree, TypesOk}
 use Rattle.layout.specs.Lists.{each-at, getD-map}
-use Rattle.layout.specs.Prims.{moved-moved, moved-zero, moved-off, placed-off, placed-moved, has-moved, has-take, has-drop, has-at, at-has, nth, count-copiesOf, copies-sized, count-sub}
-use Rattle.layout.specs.Flat.{Ordered, ordered-flat, has-inside, flat-inside, flat-basic, basic-wide, distance-zero, filled, flat-arr, flat-prim, element-sized, flat-sub}
+use Rattle.layout.specs.Prims.{moved-moved, moved-zero, moved-off, placed-off, placed-moved, has-moved, has-take, has-drop, At, has-at, at-has, nth, count-copiesOf, copies-sized, count-sub}
+use Rattle.layout.specs.Flat.{Ordered, ordered-flat, has-inside, flat-inside, flat-basic, basic-wide, distance-zero, filled-some, flat-arr, flat-prim, element-sized, flat-sub}
 
 -- ---- positions
 
@@ -39,6 +39,12 @@ module _ {k : RegionKind} where
   abbrev pub Ascending : Layout k → Type 0
   Ascending L = (i j : ℕ) → i < j → j < count L → distance L i < distance L j
 
+  abbrev pub Rising : Layout k → Type 0
+  Rising L = (i j : ℕ) → i < j → j < count L → distance L i ≤ distance L j
+
+  pub flat-rising : (m : Module) (T : Tree k) → Rising (flat m T)
+  flat-rising m T i j h l = omega (arith, nth-apart 0 (flat m T .prims) (size m T) (at 0 (int 0)) (ordered-flat m T) i j h l)
+
   module _ (m : Module) (ok : TypesOk m) (T : Tree k) (g : GoodTree m T) where
     pub flat-ascending : Ascending (flat m T)
     flat-ascending i j h l =
@@ -53,18 +59,24 @@ module _ {k : RegionKind} where
         let t : ℕ → Bool = λ q. not (eqb (distance L q) o) in
         eqb-true (distance L (positionAt L o)) o (not-false (eqb (distance L (positionAt L o)) o) (first-fails (count L) t h))
 
+    -- none before it is
+    pub position-before : (o j : ℕ) → j < positionAt L o → distance L j ≢ o
+    unfolding positionAt
+    position-before o j h e =
+        true-not-false (first-before (count L) (λ q. not (eqb (distance L q) o)) j h) (ap not (eq-eqb (distance L j) o e))
+
+    pub position-is : (o q : ℕ) → q < count L → ((j : ℕ) → j < q → distance L j ≢ o) → distance L q ≡ o → positionAt L o ≡ q
+    unfolding positionAt
+    position-is o q h before e =
+        first-is (count L) (λ j. not (eqb (distance L j) o)) q (omega arith) (λ j l. ap not (ne-eqb (distance L j) o (before j l)))
+        (λ l. ap not (eq-eqb (distance L q) o e))
+
     -- a position is determined by its distance
     pub position-of : Ascending L → (q : ℕ) → q < count L → positionAt L (distance L q) ≡ q
-    unfolding positionAt
-    position-of up q h =
-        first-is (count L) (λ j. not (eqb (distance L j) (distance L q))) q (omega arith)
-        (λ j l. ap not (ne-eqb (distance L j) (distance L q) (λ e. let s = up j q l h in omega arith)))
-        (λ l. ap not (eq-eqb (distance L q) (distance L q) refl))
+    position-of up q h = position-is (distance L q) q h (λ j l e. let s = up j q l h in omega arith) refl
 
     pub position-zero : 0 < count L → distance L 0 ≡ 0 → positionAt L 0 ≡ 0
-    unfolding positionAt
-    position-zero h e =
-        first-is (count L) (λ j. not (eqb (distance L j) 0)) 0 (omega arith) (λ j l. absurd (not-suc-le-zero l)) (λ l. ap not (eq-eqb (distance L 0) 0 e))
+    position-zero h e = position-is 0 0 h (λ j l. absurd (not-suc-le-zero l)) e
 
 -- ---- a run by its positions
 
@@ -140,13 +152,33 @@ module _ {k : RegionKind} where
   pub run-at : (L : Layout k) → Ascending L → (q : ℕ) (M : Layout k) → Run L q M → RunAt L (distance L q) M
   run-at L up q M r = subst (λ (x : ℕ). Run L x M) (sym (position-of L up q (omega (arith, run-room L q M r, r .some)))) r
 
+  -- where the distances of L do not fall and those of M grow, position q of M is q after the position of M
+  pub position-in : (L : Layout k) → Rising L → (o : ℕ) (M : Layout k) → Ascending M → RunAt L o M → (q : ℕ) → q < count M
+      → positionAt L (o + distance M q) ≡ positionAt L o + q
+  position-in L rise o M up r q h =
+      let room = run-room L (positionAt L o) M r in
+      let is : (i : ℕ) → i < count M → distance L (positionAt L o + i) ≡ o + distance M i =
+      λ i l. run-distance L (positionAt L o) M r i l ∙ ap (λ (x : ℕ). x + distance M i) (runAt-distance L o M r) in
+      position-is L (o + distance M q) (positionAt L o + q) (omega arith)
+      (λ j l e. go j l e is room (lt-or-le j (positionAt L o))) (is q h)
+    where
+      go : (j : ℕ) → j < positionAt L o + q → distance L j ≡ o + distance M q → ((i : ℕ) → i < count M → distance L (positionAt L o + i) ≡ o + distance M i)
+          → positionAt L o + count M ≤ count L → (j < positionAt L o) ⊎ (positionAt L o ≤ j) → ⊥
+      go j l e is room (inl b) =
+          let top = runAt-distance L o M r in
+          let low = rise j (positionAt L o) b (omega arith) in
+          position-before L o j b (omega arith)
+      go j l e is room (inr b) =
+          let back : positionAt L o + (j - positionAt L o) ≡ j = omega arith in
+          let there = is (j - positionAt L o) (omega arith) in
+          let same : distance L j ≡ o + distance M (j - positionAt L o) = ap (distance L) (sym back) ∙ there in
+          omega (arith, up (j - positionAt L o) q (omega arith) h, same)
+
   -- M stands o bytes into L, N at position q of M
-  pub run-run : (L : Layout k) → Ascending L → (o : ℕ) (M : Layout k) (q : ℕ) (N : Layout k) → RunAt L o M → Run M q N → RunAt L (o + distance M q) N
-  run-run L up o M q N r s =
-      let p : ℕ = positionAt L o in
-      let e : distance L (p + q) ≡ o + distance M q =
-      run-distance L p M r q (omega (arith, run-room M q N s, s .some)) ∙ ap (λ (x : ℕ). x + distance M q) (runAt-distance L o M r) in
-      subst (λ (x : ℕ). RunAt L x N) e (run-at L up (p + q) N (run-run-from L M N p q r s))
+  pub run-run : (L : Layout k) → Rising L → (o : ℕ) (M : Layout k) → Ascending M → (q : ℕ) (N : Layout k) → RunAt L o M → Run M q N → RunAt L (o + distance M q) N
+  run-run L rise o M up q N r s =
+      subst (λ (x : ℕ). Run L x N) (sym (position-in L rise o M up r q (omega (arith, run-room M q N s, s .some))))
+      (run-run-from L M N (positionAt L o) q r s)
 
   -- ---- elements of an array
 
@@ -229,21 +261,24 @@ module _ {k : RegionKind} where
   -- ---- one primitive
 
   -- a primitive is a run where it stands
-  pub prim-run : (m : Module) (L : Layout k) → Ascending L → (d : ℕ) (P : Tree k) → Primitive P → Has (L .prims) d P → RunAt L d (flat m P)
-  prim-run m L up d P p h =
-      let a = has-at h in
+  pub prim-run-from : (m : Module) (L : Layout k) (d : ℕ) (P : Tree k) → Primitive P → (a : At (L .prims) d P) → Run L (a .position) (flat m P)
+  prim-run-from m L d P p a =
       let q : ℕ = a .position in
       let at-d : distance L q ≡ d = ap off (a .is) in
-      let one : Run L q (single (width P) P) =
-      matches-run L q (single (width P) P)
+      subst (λ (M : Layout k). Run L q M) (sym (flat-prim m P p))
+      (matches-run L q (single (width P) P)
       (record {
         some = omega arith;
         room = omega (arith, a .below);
         each = λ i l.
             let z : i ≡ 0 = omega arith in
             rw z (ap (nth L) (add-zero q) ∙ a .is ∙ ap {B = Placed k} (λ x. at x P) (sym at-d ∙ sym (add-zero (distance L q))));
-      }) in
-      subst (λ (x : ℕ). RunAt L x (flat m P)) at-d (run-at L up q (flat m P) (subst (λ (M : Layout k). Run L q M) (sym (flat-prim m P p)) one))
+      }))
+
+  pub prim-run : (m : Module) (L : Layout k) → Ascending L → (d : ℕ) (P : Tree k) → Primitive P → Has (L .prims) d P → RunAt L d (flat m P)
+  prim-run m L up d P p h =
+      let a = has-at h in
+      subst (λ (x : ℕ). RunAt L x (flat m P)) (ap off (a .is)) (run-at L up (a .position) (flat m P) (prim-run-from m L d P p a))
 
   -- a run of a primitive is that primitive
   pub run-prim : (m : Module) (L : Layout k) (o : ℕ) (P : Tree k) → Primitive P → RunAt L o (flat m P) → Has (L .prims) o P
@@ -253,12 +288,12 @@ module _ {k : RegionKind} where
 
   -- ---- a run lies inside
 
-  pub run-size : (m : Module) (T U : Tree k) (o : ℕ) → size m U ≤ sizeLimit → RunAt (flat m T) o (flat m U) → o + size m U ≤ size m T
-  run-size m T U o s r = go (lt-or-le 0 (size m U))
+  pub run-size : (m : Module) (T U : Tree k) (o : ℕ) → RunAt (flat m T) o (flat m U) → o + size m U ≤ size m T
+  run-size m T U o r = go (lt-or-le 0 (size m U))
     where
       go : (0 < size m U) ⊎ (size m U ≤ 0) → o + size m U ≤ size m T
       go (inl h) =
-          let c = filled m U s (size m U - 1) (omega arith) in
+          let c = filled-some m U (r .some) (size m U - 1) (omega arith) in
           omega (arith, c .high, flat-inside m T (run-has (flat m T) o (flat m U) r (c .has)))
       go (inr h) = omega (arith, flat-inside m T (run-has (flat m T) o (flat m U) r (at-has (flat m U .prims) 0 (at 0 (int 0)) (r .some))))
 

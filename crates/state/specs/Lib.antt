@@ -10,3 +10,6 @@ pub mod Effects
 pub mod Whole
 pub mod Independence
 pub mod Marks
+pub mod Fields
+pub mod Pages
+pub mod Opening
