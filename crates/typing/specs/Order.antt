@@ -254,7 +254,7 @@ module _ (f : Bytes) where
   none-before n p (function a h) {m} {q} b l = go (earlier-at m q (h .number) (h .place) l)
     where
       six : BadFunction f q → q < startOf f (h .j) → ⊥
-      six k z = k .1 .1 .1 (function-test f (k .0) (h .before (k .0) (start-order f (a .records (omega arith)) (k .0) (h .j) (k .1 .0) (omega (arith, k .1 .1 .0, z)))))
+      six k z = k .1 .1 .1 (function-test f (k .0) (h .before (k .0) (start-order f (a 4 (omega arith)) (k .0) (h .j) (k .1 .0) (omega (arith, k .1 .1 .0, z)))))
 
       go : Earlier m q 6 (startOf f (h .j)) → ⊥
       go (inl z) = lower a b z (λ e. omega arith)
@@ -268,7 +268,7 @@ module _ (f : Bytes) where
 
       seven : BadInstruction f q → q < instructionAt f (h .i) (h .fails .j) → ⊥
       seven k z =
-          let o = instruction-order f (a .records (omega arith)) (k .0) (h .i) (k .1 .0) (h .fails .j) (k .1 .1 .0) (k .1 .1 .1 .0) (h .fails .inside)
+          let o = instruction-order f (a 4 (omega arith)) (k .0) (h .i) (k .1 .0) (h .fails .j) (k .1 .1 .0) (k .1 .1 .1 .0) (h .fails .inside)
           (omega (arith, k .1 .1 .1 .1 .0, z)) in
           k .1 .1 .1 .1 .1 (does-true (decTyped (moduleOf f) (moduleOf f .function (k .0)) (moduleOf f .function (k .0) .code (k .1 .0)))
           (unfold instructionTest in typed (k .0) (k .1 .0) (k .1 .1 .0) (k .1 .1 .1 .0) o))
@@ -279,10 +279,10 @@ module _ (f : Bytes) where
   none-before n p (last a h) {m} {q} b l = go (earlier-at m q (h .number) (h .place) l)
     where
       some-last : (g : ℕ) → g < moduleOf f .functions → moduleOf f .function g .length - 1 < moduleOf f .function g .length
-      some-last g k = omega (arith, module-ranges f (a .records (omega arith)) g k .some)
+      some-last g k = omega (arith, module-ranges f (a 4 (omega arith)) g k .some)
 
       eight : BadLast f q → q < instructionAt f (h .j) (moduleOf f .function (h .j) .length - 1) → ⊥
-      eight k z = after-order (instruction-order f (a .records (omega arith)) (k .0) (h .j) (moduleOf f .function (k .0) .length - 1)
+      eight k z = after-order (instruction-order f (a 4 (omega arith)) (k .0) (h .j) (moduleOf f .function (k .0) .length - 1)
           (moduleOf f .function (h .j) .length - 1) (k .1 .0) (some-last (k .0) (k .1 .0)) (some-last (h .j) (h .inside)) (omega (arith, k .1 .1 .0, z)))
         where
           after-order : (k .0 < h .j) ⊎ ((k .0 ≡ h .j) × (moduleOf f .function (k .0) .length - 1 < moduleOf f .function (h .j) .length - 1)) → ⊥
