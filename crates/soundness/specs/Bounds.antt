@@ -13,11 +13,11 @@ use Rattle.rules.specs.State.{View}
 use Rattle.rules.specs.Heap.{close, Live, HeapTyping, heapTyping, Value}
 use Rattle.rules.specs.Step.{Effect, set, fetch, save, takePlace, grantPage, freePlace, goTo, emit, push, pop, finish, stop, stuck}
 use Rattle.layout.specs.Close.{close-width}
-use Rattle.layout.specs.Heap.{slot-inside}
+use Rattle.layout.specs.Heap.{value-bound, slot-inside}
 use Rattle.state.specs.Effects.{Onward, InRegister, Bounded}
 use Rattle.soundness.specs.Facts.{ModuleOk}
 use Rattle.soundness.specs.Good.{Good, map-numbered}
-use Rattle.soundness.specs.Preserve.{SafePush, value-bound}
+use Rattle.soundness.specs.Preserve.{SafePush}
 use Rattle.soundness.specs.Safe.{Next, SafeSet, Safe}
 
 module _ (m : Module) (ok : ModuleOk m) (v : View) (k : ℕ) (g : Good m v (suc k)) where

@@ -22,8 +22,9 @@ use Rattle.rules.specs.Heap.{close, Local, Live, localList, liveList, look, typ
 use Rattle.rules.specs.Step.{StandsAtCall}
 use Rattle.rules.specs.StateTest.{Chained, FramesOk}
 use Rattle.soundness.specs.Fresh.{In, in-head, in-tail, in-left, in-right}
-use Rattle.layout.specs.Types.{close-agree, close-sub, Outer}
-use Rattle.layout.specs.Heap.{Slot, outer-flat}
+use Rattle.layout.specs.Types.{close-agree, close-sub, Outer, outer-close}
+use Rattle.layout.specs.Close.{has-close}
+use Rattle.layout.specs.Heap.{Slot}
 use Rattle.typing.specs.Facts.{FunctionFacts}
 use Rattle.soundness.specs.Facts.{ModuleOk}
 
@@ -191,8 +192,9 @@ module _ (m : Module) (ok : ModuleOk m) (fn pc : ℕ → ℕ) (map : ℕ → ℕ
       let inside : i < regions g = omega (arith, l .local .below) in
       let known : fn k < m .functions = s .known k (l .below) in
       let e : typeOf m fn map n r ≡ close (map k) (g .regionType i) = ap (typeOf m fn map n) (sym (suc-inj (l .local .is))) ∙ map-typed k i (l .below) inside in
-      outer-flat m (ok .types) P (map k) (regions g) (g .regionType i) (ok .types .regionTypes (fn k) i known inside) (ok .function (fn k) known .regionScope i inside) f
-      (subst (λ (T : Tree live). Has (flat m T .prims) d q) e h)
+      let c = has-close (map k) m (ok .types) (g .regionType i) (ok .types .regionTypes (fn k) i known inside) (regions g) d q (ok .function (fn k) known .regionScope i inside)
+      (subst (λ (T : Tree live). Has (flat m T .prims) d q) e h) in
+      rw (c .2) (outer-close P (map k) (regions g) (c .0) (c .1) f)
 
 -- ---- live is in the list
 

@@ -21,7 +21,7 @@ use Rattle.rules.specs.StateTest.{Chained, FramesOk}
 use Rattle.soundness.specs.Fresh.{In}
 use Rattle.layout.specs.Types.{close-agree, close-sub, sub-prim, Outer, outer-close, outer-all}
 use Rattle.layout.specs.Flat.{flat-inside, flat-has-prim, SamePlace, Apart}
-use Rattle.layout.specs.Heap.{Slot, Kept, value-keep, value-zero, slots-apart}
+use Rattle.layout.specs.Heap.{Slot, Kept, value-keep, value-zero, value-bound, slots-apart}
 use Rattle.state.specs.Update.{upd, upd-same, upd-other, upd-cases, upd2, stored, zeroed, memoryNumber-stored, memoryNumber-stored-apart, memoryNumber-zeroed, memoryNumber-zeroed-apart}
 use Rattle.state.specs.Apply.{wrote, moved, saved, marked, granted, pushed, closed, closedOwner, closedMark}
 use Rattle.soundness.specs.Facts.{ModuleOk}
@@ -141,14 +141,6 @@ good-wrote m v k a x g h y = record {
 }
 
 -- ---- 26: one primitive
-
--- a value fits into the bytes of its type
-pub value-bound : (m : Module) (W : HeapTyping) (T : Tree live) (x : ℕ) → Value m W T x → x < 256 ^ width T
-value-bound m W (int w) x h = h
-value-bound m W (ptr T r) x (inl z) = omega arith
-value-bound m W (ptr T r) x (inr h) = omega (arith, h .inside)
-value-bound m W (arr n T) x h = absurd h
-value-bound m W (struct N rs) x h = absurd h
 
 pub good-saved : (m : Module) (v : View) (n x y : ℕ) (q : Tree live) → Good m v n → Slot m (heapTyping m v n) x q → Value m (heapTyping m v n) q y → Good m (saved x (width q) y v) n
 good-saved m v n x y q g s h = record {

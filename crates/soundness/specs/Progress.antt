@@ -29,17 +29,17 @@ use Rattle.rules.specs.Step.{Effect, set, fetch, save, takePlace, grantPage, fr
 use Rattle.rules.specs.StateTest.{Listed, Chained, FramesOk, site-unique}
 use Rattle.rules.specs.Claim.{Touches}
 use Rattle.layout.specs.TypesOk.{GoodTree, good-ptr, good-arr}
-use Rattle.layout.specs.Flat.{size-prim, good-sized}
 use Rattle.state.specs.Update.{upd-same}
 use Rattle.state.specs.Apply.{granted}
-use Rattle.layout.specs.Close.{close-width, close-prim, size-close, good-close, close-arr, distance-close, run-close, same-close}
-use Rattle.layout.specs.Heap.{HeapOk, heap-ok, Slot, stands-slot, stands-field, stands-index, stands-new, stands-object, stands-bytes, pow-pos}
+use Rattle.layout.specs.Close.{close-width, close-prim, size-close}
+use Rattle.layout.specs.Heap.{Slot, stands-slot, value-bound}
+use Rattle.layout.specs.Pointers.{stands-field, stands-element, stands-object, touched-object, touched-bytes}
 use Rattle.typing.specs.Facts.{FunctionFacts, GoesOn}
 use Rattle.soundness.specs.Facts.{ModuleOk}
 use Rattle.soundness.specs.Fresh.{In, numbers-length, numbers-out, numbers-differ, numbers-small, number-in}
 use Rattle.soundness.specs.Operations.{Fits, cut-lt, operate-fits, quotient-fits, compare-fits}
 use Rattle.soundness.specs.Good.{Good, CallRule, call-rule, chain-rule, through-types, map-live, map-typed, live-length}
-use Rattle.soundness.specs.Preserve.{SafePush, value-bound}
+use Rattle.soundness.specs.Preserve.{SafePush}
 use Rattle.soundness.specs.Safe.{Next, SafeSet, SafeFree, SafePop, Safe}
 
 -- ---- guards and choices: what holds of each effect behind them holds of the whole
@@ -104,9 +104,6 @@ module _ (m : Module) (ok : ModuleOk m) (form : Bytes) (bytes : AllBytes form) (
 
   held : (b : ℕ) → b < top m v k .registers → Held m form v k (top m v k) b
   held b h = g .registers k low b h
-
-  heap : HeapOk m (heapTyping m v (suc k))
-  heap = heap-ok m (ok .types) v (suc k) (g .frames .known)
 
   register-ok : (a : ℕ) → a < top m v k .registers → GoodTree m (top m v k .registerType a)
   register-ok a h = ok .types .registerTypes (v .fn k) a (g .frames .known k low) h
@@ -206,10 +203,6 @@ module _ (m : Module) (ok : ModuleOk m) (form : Bytes) (bytes : AllBytes form) (
   touches a T r c p z =
       let h = pointed a T r p z in
       let i = pointer-scope a T r p in
-      let q : Tree live = close (v .map k) T in
-      let whole : size m q ≡ size m T = size-close (v .map k) m T in
-      let wide : size m T ≡ width T = size-prim m T c in
-      let small : size m q ≤ sizeLimit = omega (arith, whole, good-sized m T (pointee-ok a T r p)) in
       record {
         target = T;
         within = r;
@@ -219,8 +212,8 @@ module _ (m : Module) (ok : ModuleOk m) (form : Bytes) (bytes : AllBytes form) (
         scope = i;
         alive = map-live m ok (v .fn) (v .pc) (v .map) (suc k) (g .frames) k (r .number) low i;
         run = h;
-        object = λ j l o. stands-object m (heapTyping m v (suc k)) q (v .map k (r .number)) (v .reg k a) small h j l (omega (arith, whole));
-        bytes = λ j l o. stands-bytes m (heapTyping m v (suc k)) q (v .map k (r .number)) (v .reg k a) small h j l (omega (arith, whole, wide));
+        object = touched-object m (heapTyping m v (suc k)) (v .map k) T (v .map k (r .number)) (v .reg k a) h;
+        bytes = touched-bytes m (heapTyping m v (suc k)) (v .map k) T (v .map k (r .number)) (v .reg k a) h c;
       }
 
   -- ---- 27 and 28
@@ -232,12 +225,8 @@ module _ (m : Module) (ok : ModuleOk m) (form : Bytes) (bytes : AllBytes form) (
       → Stands m W (close (v .map k) T) (v .map k (r .number)) (pageBytes * p + size m (top m v k .regionType (r .number)) * j)
   object-run W same a T r ra e p j inside own fits =
       let h = pointer-scope a T r ra in
-      let U : Tree variable = top m v k .regionType (r .number) in
-      let is : W .type (v .map k (r .number)) ≡ close (v .map k) U = ap (λ (t : ℕ → Tree live). t (v .map k (r .number))) same ∙ home (r .number) h .type in
-      let sized : size m (W .type (v .map k (r .number))) ≡ size m U = ap (size m) is ∙ size-close (v .map k) m U in
-      subst (λ (x : ℕ). Stands m W (close (v .map k) T) (v .map k (r .number)) (pageBytes * p + x * j)) sized
-      (stands-new m W (close (v .map k) T) (v .map k (r .number)) p j inside own (rw sized (region-size (r .number) h .0)) (rw sized fits)
-      (rw is (same-close (v .map k) m (ok .types) T (pointee-ok a T r ra) U (region-ok (r .number) h) e)))
+      stands-object m (ok .types) W (v .map k) T (top m v k .regionType (r .number)) (v .map k (r .number)) p j (pointee-ok a T r ra) (region-ok (r .number) h) e
+      (ap (λ (t : ℕ → Tree live). t (v .map k (r .number))) same ∙ home (r .number) h .type) inside own fits
 
   granted-set : (a : ℕ) (T : Tree variable) (r : Variable) (q : ℕ) → top m v k ⊢ a ∶ ptr T r → Next m v k
       → Stands m (heapTyping m (granted q (v .map k (r .number)) v) (suc k)) (close (v .map k) T) (v .map k (r .number)) (pageBytes * q)
@@ -413,9 +402,7 @@ module _ (m : Module) (ok : ModuleOk m) (form : Bytes) (bytes : AllBytes form) (
       (onPtr-safe (Safe m v k) (top m v k .registerType b) T r (λ T r. notZero (v .reg k b) (set a (v .reg k b + distance (flat m T) d))) (rb .1)
       (notZero-safe (Safe m v k) (v .reg k b) _ (listed 31 (omega arith) (omega arith))
       (λ z. set-run a U r (v .reg k b + distance (flat m T) d) ra n
-      (rw (← (distance-close (v .map k) m (ok .types) T (pointee-ok b T r rb) d))
-      (stands-field m (ok .types) (heapTyping m v (suc k)) heap (close (v .map k) T) (close (v .map k) U) (v .map k (r .number)) (v .reg k b) d (pointed b T r rb z)
-      (run-close (v .map k) m (ok .types) T (pointee-ok b T r rb) U (pointee-ok a U r ra) d run))))))
+      (stands-field m (ok .types) (heapTyping m v (suc k)) (v .map k) T U (v .map k (r .number)) (v .reg k b) d (pointee-ok b T r rb) (pointee-ok a U r ra) run (pointed b T r rb z)))))
   kind-safe e (t-index {a} {b} {c} {n = count} {r} {T} rb rc ra) n =
       need-safe (Safe m v k) (decHeld m form v k (top m v k) b) _ (held b (rb .0))
       (need-safe (Safe m v k) (decHeld m form v k (top m v k) c) _ (held c (rc .0))
@@ -425,10 +412,7 @@ module _ (m : Module) (ok : ModuleOk m) (form : Bytes) (bytes : AllBytes form) (
       notZero-safe (Safe m v k) (v .reg k b) _ (listed 31 (omega arith) (omega arith))
       (λ z. split-lt (Safe m v k) (v .reg k c) count (set a (v .reg k b + v .reg k c * size m T)) (stop 33)
       (λ h. set-run a T r (v .reg k b + v .reg k c * size m T) ra n
-      (rw (← (size-close (v .map k) m T))
-      (stands-index m (ok .types) (heapTyping m v (suc k)) heap count (close (v .map k) T) (v .map k (r .number)) (v .reg k b) (v .reg k c)
-      (rw (close-arr (v .map k) count T) at (good-close (v .map k) m (arr count T) (pointee-ok b (arr count T) r rb))) h
-      (rw (close-arr (v .map k) count T) at (pointed b (arr count T) r rb z)))))
+      (stands-element m (ok .types) (heapTyping m v (suc k)) (v .map k) T count (v .map k (r .number)) (v .reg k b) (v .reg k c) (pointee-ok b (arr count T) r rb) h (pointed b (arr count T) r rb z)))
       (λ h. listed 33 (omega arith) (omega arith))))))
   kind-safe e (t-load {a} {b} {r} {T} rb ra) n =
       need-safe (Safe m v k) (decHeld m form v k (top m v k) b) _ (held b (rb .0))

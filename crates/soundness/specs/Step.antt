@@ -1,109 +1,61 @@
 -- One step: a safe effect keeps the state test, and moves the count of owned pages by what it grants and hands back.
 -- Assumes nothing.
-use mathlib.Core.Path.{_≡_, refl, sym, ap, ap₂, _∙_, subst}
-use mathlib.Core.Bool.{Bool, true, false, cond}
-use mathlib.Core.Logic.{_⊎_, inl, inr, _≢_}
+use mathlib.Core.Path.{_≡_, refl, sym, _∙_, subst}
+use mathlib.Core.Bool.{cond}
 use Prim.Native.Nat.{ℕ, zero, suc, _+_, _*_, _^_, _<_, _≤_}
 use native.Mathlib.Nat.{not-suc-le-zero, suc-inj}
-use native.Mathlib.Decide.{ℕ-discrete, decLt}
+use native.Mathlib.Decide.{decLt}
 use native.Mathlib.Omega.{arith}
 use lib.Dec.{eqb}
-use Rattle.words.specs.Choose.{split, cond-yes, cond-no, cond-eq, cond-ne}
+use Rattle.words.specs.Choose.{cond-eq}
 use Rattle.rules.specs.Limits.{pages, pageBytes, outputBytes}
-use Rattle.rules.specs.Decide.{does-true}
 use Rattle.rules.specs.Types.{live, Tree, width}
 use Rattle.rules.specs.Module.{Module, regions}
 use Rattle.rules.specs.State.{View, memoryNumber}
-use Rattle.rules.specs.Heap.{close, Local, decLocal, heapTyping, Value}
-use Rattle.rules.specs.Step.{Effect, set, fetch, save, takePlace, grantPage, freePlace, goTo, emit, push, pop, finish, stop, stuck, closes, closedPages, grantedBy, handedBackBy}
+use Rattle.rules.specs.Heap.{close, heapTyping}
+use Rattle.rules.specs.Step.{Effect, set, fetch, save, takePlace, grantPage, freePlace, goTo, emit, push, pop, finish, stop, stuck, grantedBy, handedBackBy}
 use Rattle.rules.specs.StateTest.{Listed, StatusOk, running, stopped, ended, SpareOk}
 use Rattle.rules.specs.Claim.{ownedBelow}
 use Rattle.layout.specs.Types.{outer-close}
 use Rattle.layout.specs.Heap.{Kept, value-keep}
 use Rattle.state.specs.Update.{upd, upd-same, upd-other}
-use Rattle.state.specs.Apply.{wrote, moved, saved, marked, granted, counted, pushed, closed, closedOwner, became, apply, nothing}
+use Rattle.state.specs.Apply.{wrote, moved, saved, marked, granted, counted, pushed, closed, became, apply, nothing}
+use Rattle.state.specs.Pages.{GrantsUnowned, pages-apply}
 use Rattle.soundness.specs.Facts.{ModuleOk}
 use Rattle.soundness.specs.Good.{Good}
 use Rattle.soundness.specs.Preserve.{good-moved, good-wrote, good-saved, good-marked, good-granted, good-closed, good-pushed, open-kept, below-open}
 use Rattle.soundness.specs.Spare.{spare-moved, spare-wrote, spare-saved, spare-became, spare-counted, spare-marked, spare-granted, spare-pushed, spare-closed}
 use Rattle.soundness.specs.Safe.{SafePop, Safe}
 
--- ---- counting pages
+-- ---- pages
 
--- a page by its owner, and a page by whether it is closed
-abbrev ownedOne : ℕ → ℕ
-ownedOne x = cond (eqb x 0) 0 1
-
-abbrev closedOne : Bool → ℕ
-closedOne b = cond b 1 0
-
-owned-agree : (f g : ℕ → ℕ) (n : ℕ) → ((i : ℕ) → i < n → f i ≡ g i) → ownedBelow f n ≡ ownedBelow g n
-unfolding ownedBelow
-owned-agree f g zero h = refl
-owned-agree f g (suc n) h = ap₂ (λ (x y : ℕ). x + ownedOne y) (owned-agree f g n (λ i l. h i (omega arith))) (h n (omega arith))
-
-pub owned-none : (f : ℕ → ℕ) (n : ℕ) → ((i : ℕ) → i < n → f i ≡ 0) → ownedBelow f n ≡ 0
-unfolding ownedBelow
-owned-none f zero h = refl
-owned-none f (suc n) h =
-    let a : ownedOne (f n) ≡ 0 = cond-eq 0 1 (h n (omega arith)) in
-    let b : ownedBelow f n ≡ 0 = owned-none f n (λ i l. h i (omega arith)) in
-    omega arith
-
--- one more, where there was none
-owned-more : (f : ℕ → ℕ) (n p x : ℕ) → p < n → f p ≡ 0 → 0 < x → ownedBelow (upd f p x) n ≡ suc (ownedBelow f n)
-unfolding ownedBelow
-owned-more f zero p x h e l = absurd (not-suc-le-zero h)
-owned-more f (suc n) p x h e l = go (ℕ-discrete p n) (λ k. owned-more f n p x k e l)
-  where
-    go : Dec (p ≡ n) → (p < n → ownedBelow (upd f p x) n ≡ suc (ownedBelow f n))
-        → ownedBelow (upd f p x) n + ownedOne (upd f p x n) ≡ suc (ownedBelow f n + ownedOne (f n))
-    go (yes d) _ =
-        let a : upd f p x n ≡ x = ap (upd f p x) (sym d) ∙ upd-same f p x in
-        let b : ownedOne (upd f p x n) ≡ 1 = cond-ne 0 1 {m = upd f p x n} {n = 0} (λ z. omega arith) in
-        let c : ownedOne (f n) ≡ 0 = cond-eq 0 1 (ap f (sym d) ∙ e) in
-        let i : ownedBelow (upd f p x) n ≡ ownedBelow f n = owned-agree (upd f p x) f n (λ j m. upd-other f p x j (omega arith)) in
-        omega arith
-    go (no d) r =
-        let a : upd f p x n ≡ f n = upd-other f p x n (λ z. d (sym z)) in
-        let b : ownedOne (upd f p x n) ≡ ownedOne (f n) = ap ownedOne a in
-        let i = r (omega arith) in
-        omega (arith, i)
-
--- each owned page is kept or closed
-closed-count : (m : Module) (v : View) (k n : ℕ) → ownedBelow (closedOwner m v k) n + closedPages m v k n ≡ ownedBelow (v .owner) n
-unfolding ownedBelow closedPages
-closed-count m v k zero = refl
-closed-count m v k (suc p) = go (split (closes m v k p)) (closed-count m v k p)
-  where
-    go : (closes m v k p ≡ true) ⊎ (closes m v k p ≡ false) → ownedBelow (closedOwner m v k) p + closedPages m v k p ≡ ownedBelow (v .owner) p
-        → ownedBelow (closedOwner m v k) p + ownedOne (closedOwner m v k p) + (closedPages m v k p + closedOne (closes m v k p)) ≡ ownedBelow (v .owner) p + ownedOne (v .owner p)
-    go (inl c) r =
-        let l : Local (m .function (v .fn k)) (v .map k) (v .owner p) = does-true (decLocal (m .function (v .fn k)) (v .map k) (v .owner p)) c in
-        let a : ownedOne (closedOwner m v k p) ≡ 0 = cond-eq 0 1 (cond-yes 0 (v .owner p) c) in
-        let b : closedOne (closes m v k p) ≡ 1 = cond-yes 1 0 c in
-        let d : ownedOne (v .owner p) ≡ 1 = cond-ne 0 1 {m = v .owner p} {n = 0} (λ z. omega (arith, l .is)) in
-        omega arith
-    go (inr c) r =
-        let a : ownedOne (closedOwner m v k p) ≡ ownedOne (v .owner p) = ap ownedOne (cond-no 0 (v .owner p) c) in
-        let b : closedOne (closes m v k p) ≡ 0 = cond-no 1 0 c in
-        omega arith
+-- a page that is granted was unowned
+grants-unowned : (m : Module) (v : View) (k : ℕ) (e : Effect) → Safe m v k e → GrantsUnowned v e
+grants-unowned m v k (set a x) f = tt
+grants-unowned m v k (fetch b a x w) f = tt
+grants-unowned m v k (save b x w y) f = tt
+grants-unowned m v k (takePlace p j a x) f = tt
+grants-unowned m v k (grantPage p r a) f = (f .inside, f .unowned)
+grants-unowned m v k (freePlace p j) f = tt
+grants-unowned m v k (goTo d) f = tt
+grants-unowned m v k (emit x) f = tt
+grants-unowned m v k (push g μ ρ) f = tt
+grants-unowned m v k (pop c a x) f = tt
+grants-unowned m v k (finish x) f = tt
+grants-unowned m v k (stop n) f = tt
+grants-unowned m v k stuck f = tt
 
 pub pages-step : (m : Module) (v : View) (k : ℕ) (e : Effect) → Safe m v k e
     → ownedBelow (apply m k e v .owner) pages + handedBackBy m v k e ≡ ownedBelow (v .owner) pages + grantedBy e
-pages-step m v k (set a x) f = refl
-pages-step m v k (fetch b a x w) f = refl
-pages-step m v k (save b x w y) f = refl
-pages-step m v k (takePlace p j a x) f = refl
-pages-step m v k (grantPage p r a) f = omega (arith, owned-more (v .owner) pages p (suc r) (f .inside) (f .unowned) (omega arith))
-pages-step m v k (freePlace p j) f = refl
-pages-step m v k (goTo d) f = refl
-pages-step m v k (emit x) f = refl
-pages-step m v k (push g μ ρ) f = refl
-pages-step m v k (pop c a x) f = omega (arith, closed-count m v k pages)
-pages-step m v k (finish x) f = omega (arith, closed-count m v k pages)
-pages-step m v k (stop n) f = refl
-pages-step m v k stuck f = absurd f
+pages-step m v k e f = pages-apply m v k e (grants-unowned m v k e f)
+
+owned-none : (f : ℕ → ℕ) (n : ℕ) → ((p : ℕ) → p < n → f p ≡ 0) → ownedBelow f n ≡ 0
+unfolding ownedBelow
+owned-none f zero h = refl
+owned-none f (suc n) h =
+    let a : cond {A = ℕ} (eqb (f n) 0) 0 1 ≡ 0 = cond-eq 0 1 (h n (omega arith)) in
+    let b : ownedBelow f n ≡ 0 = owned-none f n (λ p l. h p (omega arith)) in
+    omega arith
 
 -- ---- the state test, of a view
 
