@@ -27,7 +27,7 @@ use Rattle.state.specs.Whole.{Whole}
 use Rattle.soundness.specs.Facts.{ModuleOk, accepted-ok}
 use Rattle.soundness.specs.Step.{Test}
 use Rattle.soundness.specs.Bridge.{passes-test, test-passes}
-use Rattle.soundness.specs.Opening.{first-test, first-whole}
+use Rattle.soundness.specs.Opening.{opened-test, opened-whole}
 use Rattle.soundness.specs.Sound.{Sound, ended-owned, stay, run-sound, safe-append, stuck-append, granted-append, handed-append}
 
 -- ---- answer and trace of a call go together
@@ -208,7 +208,7 @@ module _ (f : Bytes) (acc : IsAccepted (verdictOf f)) where
 
   pub start-test : (s : Bytes) → Start f s → Test (moduleOf f) (view s) × Whole s
   start-test s (fromOpening xs old z e) =
-      subst (λ (y : Bytes). Test (moduleOf f) (view y) × Whole y) (opened-first xs old s e) (first-test (moduleOf f) ok xs z, first-whole (moduleOf f) ok xs z)
+      subst (λ (y : Bytes). Test (moduleOf f) (view y) × Whole y) (opened-first xs old s e) (opened-test (moduleOf f) ok xs z, opened-whole (moduleOf f) ok xs z)
   start-test s (fromSaved z e) =
       let p = passed-passes s e in
       (passes-test (moduleOf f) ok s p, record { size = p .size; bytes = z; spare = p .unread })
