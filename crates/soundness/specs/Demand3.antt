@@ -114,7 +114,7 @@ other-call m ok form s o r t x n p w u ran e = absurd (went-not-refused r n p e)
 
 -- ---- an accepted verdict
 
-verdict-accepted : {B : Type 0} (refuse : ℕ → ℕ → B) (v : Verdict) (b : B) → IsAccepted v → onVerdict refuse v b ≡ b
+pub verdict-accepted : {B : Type 0} (refuse : ℕ → ℕ → B) (v : Verdict) (b : B) → IsAccepted v → onVerdict refuse v b ≡ b
 verdict-accepted refuse (Accepted t n f i) b a = refl
 verdict-accepted refuse (Refused n p) b a = absurd a
 
@@ -128,7 +128,7 @@ passed-is true true e = refl
 passed-is true false e = let z : _≡_ {A = ℕ} 0 1 = cc in absurd (omega arith)
 passed-is false b e = let z : _≡_ {A = ℕ} 0 1 = cc in absurd (omega arith)
 
-passes-does : (m : Module) (s : Bytes) → Passes m s → does (decPasses m s) ≡ true
+pub passes-does : (m : Module) (s : Bytes) → Passes m s → does (decPasses m s) ≡ true
 passes-does m s p = go (decPasses m s)
   where
     go : (d : Dec (Passes m s)) → does d ≡ true

@@ -13,3 +13,4 @@ pub mod Bounds
 pub mod Opening
 pub mod Sound
 pub mod Demand3
+pub mod ForCode

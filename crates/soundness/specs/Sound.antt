@@ -100,14 +100,14 @@ module _ (m : Module) (ok : ModuleOk m) where
         bounds = bounded m ok (view s) (topOf (view s .frames)) g (t .output) (effectOf m form (view s)) f;
       }
 
-  record Stepped (form s o : Bytes) : Type 0 where
-    safe : SafeStep m (stepOf m form s o)
-    moving : isStuck (effectOf m form (view s)) ≡ 0
-    test : Test m (view (stateAfter m (stepOf m form s o)))
-    whole : Whole (stateAfter m (stepOf m form s o))
-    pages : owned (stateAfter m (stepOf m form s o)) + handedBackBy m (view s) (topOf (view s .frames)) (effectOf m form (view s)) ≡ owned s + grantedBy (effectOf m form (view s))
+  pub record Stepped (form s o : Bytes) : Type 0 where
+    pub safe : SafeStep m (stepOf m form s o)
+    pub moving : isStuck (effectOf m form (view s)) ≡ 0
+    pub test : Test m (view (stateAfter m (stepOf m form s o)))
+    pub whole : Whole (stateAfter m (stepOf m form s o))
+    pub pages : owned (stateAfter m (stepOf m form s o)) + handedBackBy m (view s) (topOf (view s .frames)) (effectOf m form (view s)) ≡ owned s + grantedBy (effectOf m form (view s))
 
-  stepped : (form s o : Bytes) → AllBytes form → Test m (view s) → Whole s → view s .status ≡ 0 → Stepped form s o
+  pub stepped : (form s o : Bytes) → AllBytes form → Test m (view s) → Whole s → view s .status ≡ 0 → Stepped form s o
   stepped form s o b t w z =
       let k : ℕ = topOf (view s .frames) in
       let e : Effect = effectOf m form (view s) in
