@@ -14,3 +14,4 @@ pub mod Opening
 pub mod Sound
 pub mod Demand3
 pub mod ForCode
+pub mod Audit
