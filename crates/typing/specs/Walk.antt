@@ -2,21 +2,20 @@
 -- instructions are, and which ranges they have. Assumes nothing but that each record fits (`Fits`), where it says so.
 use mathlib.Core.Path.{_≡_, refl, sym, ap, _∙_, subst}
 use mathlib.Core.Bool.{Bool, true, false, cond, _&&_, _||_, false≢true}
-use mathlib.Core.Logic.{_⊎_, inl, inr}
-use mathlib.Core.List.{List, [], _∷_, _++_}
-use Prim.Native.Nat.{ℕ, zero, suc, _+_, _-_, _*_, _/_, _%_, _<_, _≤_}
+use mathlib.Core.List.{[], _∷_, _++_}
+use Prim.Native.Nat.{ℕ, zero, suc, _+_, _-_, _*_, _/_, _<_, _≤_}
 use native.Mathlib.Nat.{not-suc-le-zero}
-use native.Mathlib.Decide.{ℕ-discrete, decLt}
+use native.Mathlib.Decide.{ℕ-discrete}
 use native.Mathlib.Omega.{arith}
 use lib.Dec.{ltb, leb, eqb}
 use lib.ListN.{length, getD, length-append}
-use borrow.Author.Tests.{ltb-true, leb-true, eqb-true, lt-ltb, le-ltb, ltb-false, leb-false}
+use borrow.Author.Tests.{ltb-true, leb-true, eqb-true, lt-ltb, le-ltb, leb-false}
 use Rattle.words.specs.Bytes.{Bytes}
 use Rattle.rules.specs.Limits.{mostTerms, mostStructs, mostFunctions, mostRegions, mostRegionParams, mostEntries, mostRegisters, mostInstructions, sizeLimit}
 use Rattle.rules.specs.File.{records, recordOf, regionsOf, returnOf, parametersOf, instructionsOf, within, isTerm, isInstruction, kindFiller, kindInteger, kindPointer, kindArray, kindStruct, kindName, kindFields, kindFunction, kindRegions, kindRegisters, kindCall, kindArguments}
-use Rattle.rules.specs.Walk.{to, start, toCode, toRegisters, headed, opened, toTerm, named, done, called, toFunction, toName, step, next, Scan, nextScan, scan, whole}
+use Rattle.rules.specs.Walk.{to, toCode, toRegisters, headed, opened, toTerm, named, done, called, toFunction, toName, step, next, Scan, nextScan, scan, whole}
 use Rattle.rules.specs.Records.{integerFits, pointerFits, arrayFits, structFits, termFits, nameFits, headRanges, functionFits, listFits, seven, isFiller, instructionFits, argumentsFit, fitsIn, fits, endFits, recordTestWith, recordTest}
-use Rattle.rules.specs.Decode.{registersAt, codeAt, after, places, codePlaces, structStart}
+use Rattle.rules.specs.Decode.{registersAt, codeAt, after, places, structStart}
 use Rattle.rules.specs.declared.Record.{Record}
 use Rattle.rules.specs.declared.Walk.{Walk}
 use Rattle.rules.specs.declared.Phase.{Phase}
