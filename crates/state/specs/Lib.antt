@@ -11,5 +11,6 @@ pub mod Whole
 pub mod Independence
 pub mod Marks
 pub mod Fields
+pub mod NewFrame
 pub mod Pages
 pub mod Opening
