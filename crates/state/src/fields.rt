@@ -253,11 +253,11 @@ pub fn unused_place(s: &[u8], p: u32, n: u32) -> u32
     ensures { λ r. ⌜ r ≡ first n (λ j. used (pageMark (now (s .entry)) p j)) ⌝ }
 {
     let start = marks_place(p);
-    let mut i: u32 = 0;
-    while i < 32 {
-        let b = s[start + (i as usize)];
+    let mut i = 0;
+    while i < Machine::MARK_BYTES {
+        let b = s[start + i];
         if b != 255 {
-            let j = 8 * i + lowest_zero(b);
+            let j = 8 * (i as u32) + lowest_zero(b);
             return if j < n { j } else { n };
         }
         i += 1;
