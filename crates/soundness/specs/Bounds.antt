@@ -72,21 +72,27 @@ module _ (m : Module) (ok : ModuleOk m) (v : View) (k : ℕ) (g : Good m v (suc 
   pub bounded : v .outputCount ≤ outputBytes → (e : Effect) → Safe m v k e → Bounded v k e
   bounded o (set a x) f = (onward (f .next), held (heapTyping m v (suc k)) k a x (omega arith) (f .register) (f .value))
   bounded o (fetch b a x w) f =
-      let facts = ok .function (v .fn k) (g .frames .known k (omega arith)) in
-      (onward (f .next), (omega (arith, f .register, facts .ranges .registers),
-      rw (f .bytes ∙ close-width (v .map k) (m .function (v .fn k) .registerType a)) (facts .registerWidth a (f .register) .1)))
+      let facts = ok .function (v .fn k) (g .frames .known k (omega arith)) in (
+        onward (f .next),
+        (
+          omega (arith, f .register, facts .ranges .registers),
+          rw (f .bytes ∙ close-width (v .map k) (m .function (v .fn k) .registerType a)) (facts .registerWidth a (f .register) .1),
+        ),
+      )
   bounded o (save b x w y) f =
       let s = f .slot in
       (onward (f .next), omega (arith, f .bytes, slot-inside m (heapTyping m v (suc k)) x (f .type) (f .slot), s .address, s .fits, s .inside))
   bounded o (takePlace p j a x) f =
       (onward (f .register .next), (record { page = f .inside; place = f .place }, held (heapTyping m v (suc k)) k a x (omega arith) (f .register .register) (f .register .value)))
   bounded o (grantPage p r a) f =
-      let facts = ok .function (v .fn k) (g .frames .known k (omega arith)) in
-      (onward (f .register .next), record {
-        page = f .inside;
-        owner = omega (arith, live-small r (f .alive));
-        register = omega (arith, f .register .register, facts .ranges .registers);
-      })
+      let facts = ok .function (v .fn k) (g .frames .known k (omega arith)) in (
+        onward (f .register .next),
+        record {
+          page = f .inside;
+          owner = omega (arith, live-small r (f .alive));
+          register = omega (arith, f .register .register, facts .ranges .registers);
+        },
+      )
   bounded o (freePlace p j) f = (onward (f .next), record { page = f .inside; place = f .place })
   bounded o (goTo d) f = (g .frames .few, omega (arith, f, ok .function (v .fn k) (g .frames .known k (omega arith)) .ranges .instructions))
   bounded o (emit x) f = (onward (f .0), omega (arith, f .1))

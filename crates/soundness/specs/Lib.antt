@@ -15,3 +15,4 @@ pub mod Sound
 pub mod Demand3
 pub mod ForCode
 pub mod Audit
+pub mod Instance
