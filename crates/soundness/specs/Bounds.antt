@@ -1,14 +1,13 @@
 -- A safe effect of a good state keeps within the layout's bounds, so the bytes that it leaves are those of the view after it.
 -- Assumes nothing.
-use mathlib.Core.Path.{_≡_, refl, sym, ap, _∙_, subst}
-use mathlib.Core.Logic.{_⊎_, inl, inr}
-use Prim.Native.Nat.{ℕ, zero, suc, _+_, _*_, _-_, _^_, _<_, _≤_}
+use mathlib.Core.Path.{_≡_, _∙_, subst}
+use Prim.Native.Nat.{ℕ, suc, _+_, _-_, _^_, _<_, _≤_}
 use native.Mathlib.Nat.{le-trans, pow-le-pow-right, suc-inj}
 use native.Mathlib.Decide.{decLt}
 use native.Mathlib.Omega.{arith}
-use Rattle.rules.specs.Limits.{pages, pageBytes, mostFrames, mostRegisters, mostRegions, liveRegions, outputBytes, memoryBytes}
-use Rattle.rules.specs.Types.{live, region, Tree, width, arg}
-use Rattle.rules.specs.Module.{Module, Function, regions, argument}
+use Rattle.rules.specs.Limits.{liveRegions, outputBytes}
+use Rattle.rules.specs.Types.{region, width, arg}
+use Rattle.rules.specs.Module.{Module, regions, argument}
 use Rattle.rules.specs.State.{View}
 use Rattle.rules.specs.Heap.{close, Live, HeapTyping, heapTyping, Value}
 use Rattle.rules.specs.Step.{Effect, set, fetch, save, takePlace, grantPage, freePlace, goTo, emit, push, pop, finish, stop, stuck}
@@ -18,7 +17,7 @@ use Rattle.state.specs.Effects.{Onward, InRegister, Bounded}
 use Rattle.soundness.specs.Facts.{ModuleOk}
 use Rattle.soundness.specs.Good.{Good, map-numbered}
 use Rattle.soundness.specs.Preserve.{SafePush}
-use Rattle.soundness.specs.Safe.{Next, SafeSet, Safe}
+use Rattle.soundness.specs.Safe.{Next, Safe}
 
 module _ (m : Module) (ok : ModuleOk m) (v : View) (k : ℕ) (g : Good m v (suc k)) where
   -- a value of a register of frame j is a number of four bytes

@@ -3,19 +3,18 @@
 -- every list of calls with it. Assumes nothing.
 use mathlib.Core.Path.{_≡_, refl, sym, ap, ap₂, _∙_, subst}
 use mathlib.Core.Logic.{inl}
-use mathlib.Core.List.{List, [], _∷_, _++_, map}
-use Prim.Native.Nat.{ℕ, zero, suc, _+_, _*_}
+use mathlib.Core.List.{List, [], _∷_}
+use Prim.Native.Nat.{ℕ, _*_}
 use native.Mathlib.Omega.{arith}
 use lib.ListN.{length, replicate, length-replicate}
 use Rattle.words.specs.Bytes.{Bytes, AllBytes}
 use Rattle.words.specs.Choose.{cond-eq}
 use Rattle.rules.specs.Limits.{outputBytes, stateBytes}
-use Rattle.rules.specs.Module.{Module}
 use Rattle.rules.specs.Verdict.{verdictOf}
 use Rattle.rules.specs.Step.{Effect, set, fetch, save, takePlace, grantPage, freePlace, goTo, emit, push, pop, finish, stop, stuck}
 use Rattle.rules.specs.Run.{Step, Trace}
-use Rattle.rules.specs.Host.{Outcome, ended, Went, went, Opened, notOpened, opened, openOf, goOf}
-use Rattle.rules.specs.Claim.{owned, granted, handedBack, Call, Lent, Claim, fromOpening, IsAccepted}
+use Rattle.rules.specs.Host.{Outcome, ended, went, notOpened, opened, openOf, goOf}
+use Rattle.rules.specs.Claim.{granted, handedBack, Call, Lent, Claim, fromOpening, IsAccepted}
 use Rattle.words.specs.Bits.{bit, withBit}
 use Rattle.words.specs.Bytes.{number, little, splice, listFrom}
 use Rattle.words.specs.First.{firstFrom, first, sumBelow}
@@ -40,10 +39,9 @@ use Rattle.rules.specs.Quick.{along, quickRecords, quickOf}
 use Rattle.rules.specs.Records.{four, seven, fourLoose, sevenLoose, termFits, nameFits, headRanges, functionFits, listFits, regionBytesFit, instructionFits, argumentsFit, fitsIn, fits, recordTestWith}
 use Rattle.rules.specs.Stages.{verdict}
 use Rattle.rules.specs.Verdict.{termTest, structTest, functionTest, instructionTest, instructionStage, lastTest, moduleStages, instructions, moduleRules}
-use Rattle.rules.specs.Table.{Case, case, Agree, agree}
+use Rattle.rules.specs.Table.{case, agree}
 use Rattle.rules.specs.CasesFile.{recordsBytes, fileOf, file}
-use Rattle.rules.specs.declared.Verdict.{Verdict}
-use Rattle.rules.specs.declared.Verdict.the-variants.{Accepted, Refused}
+use Rattle.rules.specs.declared.Verdict.the-variants.{Accepted}
 use Rattle.soundness.specs.Demand3.{verdict-accepted, demand-3}
 use Rattle.soundness.specs.ForCode.{opened-steady, go-went}
 

@@ -1,9 +1,9 @@
 -- Demand 3 over runs: each step is safe, the state test holds after it, and the pages add up. Assumes nothing.
-use mathlib.Core.Path.{_≡_, refl, sym, ap, _∙_, subst}
+use mathlib.Core.Path.{_≡_, refl, sym, subst}
 use mathlib.Core.Bool.{Bool, true, false}
 use mathlib.Core.Logic.{_≢_}
 use mathlib.Core.List.{List, [], _∷_, _++_}
-use Prim.Native.Nat.{ℕ, zero, suc, _+_, _<_, _≤_}
+use Prim.Native.Nat.{ℕ, zero, suc, _+_, _<_}
 use native.Mathlib.Nat.{not-suc-le-zero}
 use native.Mathlib.Omega.{arith}
 use lib.Dec.{eqb}
@@ -15,8 +15,7 @@ use Rattle.rules.specs.State.{View, view}
 use Rattle.rules.specs.Step.{Effect, set, fetch, save, takePlace, grantPage, freePlace, goTo, emit, push, pop, finish, stop, stuck, effectAt, effectOf, grantedBy, handedBackBy}
 use Rattle.rules.specs.Run.{Step, topOf, stepOf, stateAfter, outputAfter, Trace, noSteps, runOf, isStuck, stuckSteps}
 use Rattle.rules.specs.StateTest.{StatusOk, running, stopped, ended, SpareOk}
-use Rattle.rules.specs.Claim.{SafeStep, AllSafe, ownedBelow, owned, granted, handedBack}
-use Rattle.state.specs.Apply.{apply}
+use Rattle.rules.specs.Claim.{SafeStep, AllSafe, owned, granted, handedBack}
 use Rattle.state.specs.Effects.{Bounded, view-apply}
 use Rattle.state.specs.Whole.{Whole, whole-apply}
 use Rattle.state.specs.Independence.{decides-law, reads-law, keeps-law}
