@@ -24,6 +24,7 @@ use Rattle.state.specs.Update.{memoryNumber-agree}
 use Rattle.state.specs.Areas.{memory-agree}
 use Rattle.state.specs.Independence.{view-pages}
 use Rattle.soundness.specs.Facts.{ModuleOk, accepted-ok}
+use Rattle.soundness.specs.Sound.{topFrame}
 use Rattle.soundness.specs.ForCode.{Steady, step-steady}
 
 -- Address i lies in the run that the type of a load's pointer register names, in state v with top frame k.
@@ -52,15 +53,15 @@ Named m v k stuck i = ⊥
 -- two states agree on the page bytes that the next effect's pointer names
 abbrev pub AgreeOnNamed : Module → (form t s : Bytes) → Type 0
 AgreeOnNamed m form t s =
-    (i : ℕ) → i < memoryBytes → Named m (view s) (topOf (view s .frames)) (effectOf m form (view s)) i → byteAt t (memoryPlace i) ≡ byteAt s (memoryPlace i)
+    (i : ℕ) → i < memoryBytes → Named m (view s) (topFrame s) (effectOf m form (view s)) i → byteAt t (memoryPlace i) ≡ byteAt s (memoryPlace i)
 
 -- ---- one load
 
 -- What a load through register b at address x of w bytes can reach: the run that the pointer's type names, inside one object; and every
 -- state that agrees on it, whatever its other page bytes are, gives the same value.
 pub record Reach (m : Module) (s : Bytes) (b x w : ℕ) : Type 0 where
-  pub named : Touches m (view s) (topOf (view s .frames)) b x w
-  pub decides : (t : Bytes) → ((i : ℕ) → i < memoryBytes → InRun m (close (view s .map (topOf (view s .frames))) (named .target)) x i → byteAt t (memoryPlace i) ≡ byteAt s (memoryPlace i))
+  pub named : Touches m (view s) (topFrame s) b x w
+  pub decides : (t : Bytes) → ((i : ℕ) → i < memoryBytes → InRun m (close (view s .map (topFrame s)) (named .target)) x i → byteAt t (memoryPlace i) ≡ byteAt s (memoryPlace i))
       → memoryNumber (view t .memory) x w ≡ memoryNumber (view s .memory) x w
 
 -- equal bytes, equal numbers
@@ -95,7 +96,7 @@ AgreeOnRun m form (suc b) t s o =
     view s .status ≡ 0 → AgreeOnNamed m form t s × AgreeOnRun m form b (stateAfter m (stepOf m form t o)) (stateAfter m (stepOf m form s o)) (outputAfter (stepOf m form s o))
 
 -- a load reads only what its pointer names
-reads-named : (m : Module) (form s o : Bytes) → SafeStep m (stepOf m form s o) → (e : Effect) → effectOf m form (view s) ≡ e → (i : ℕ) → Reads e i → Named m (view s) (topOf (view s .frames)) e i
+reads-named : (m : Module) (form s o : Bytes) → SafeStep m (stepOf m form s o) → (e : Effect) → effectOf m form (view s) ≡ e → (i : ℕ) → Reads e i → Named m (view s) (topFrame s) e i
 reads-named m form s o h (set a x) e i r = r
 reads-named m form s o h (fetch b a x w) e i r =
     let t = h .loads b a x w e in

@@ -23,7 +23,7 @@ use Rattle.rules.specs.Verdict.{verdictOf}
 use Rattle.rules.specs.State.{View, view, memoryPlace, pagePlace}
 use Rattle.rules.specs.Heap.{typeOf}
 use Rattle.rules.specs.Step.{stuck, effectOf}
-use Rattle.rules.specs.Run.{Step, topOf, stepOf, stateAfter, outputAfter, Trace, noSteps, runOf, stuckSteps}
+use Rattle.rules.specs.Run.{Step, stepOf, stateAfter, outputAfter, Trace, noSteps, runOf, stuckSteps}
 use Rattle.rules.specs.StateTest.{Passes, decPasses}
 use Rattle.rules.specs.Host.{Outcome, ended, stopped, running, Went, refused, went, noAnswer, opened, Part, emptyPart, onVerdict, outcomeOf, wentOf, goOf, firstState, openOf, objectIn, objectOf}
 use Rattle.rules.specs.Claim.{SafeStep, IsAccepted}
@@ -34,7 +34,7 @@ use Rattle.state.specs.Reads.{owner-past}
 use Rattle.soundness.specs.Facts.{ModuleOk, accepted-ok}
 use Rattle.soundness.specs.Bridge.{passes-test, test-passes}
 use Rattle.soundness.specs.Opening.{opened-test, opened-whole, opened-running}
-use Rattle.soundness.specs.Sound.{Sound, ready, stepped, run-sound}
+use Rattle.soundness.specs.Sound.{topFrame, Sound, ready, stepped, run-sound}
 use Rattle.soundness.specs.Demand3.{Paired, refusal, ran, go-paired, went-is, verdict-accepted, opened-first, passes-does}
 
 -- ---- runs
@@ -46,9 +46,9 @@ pub record Steady (m : Module) (s : Bytes) : Type 0 where
 
 -- the step of a steady state that runs
 pub record SteadyStep (m : Module) (form s o : Bytes) : Type 0 where
-  pub frame : view s .frames ≡ suc (topOf (view s .frames))
+  pub frame : view s .frames ≡ suc (topFrame s)
   pub moves : effectOf m form (view s) ≢ stuck
-  pub bounds : Bounded (view s) (topOf (view s .frames)) (effectOf m form (view s))
+  pub bounds : Bounded (view s) (topFrame s) (effectOf m form (view s))
   pub safe : SafeStep m (stepOf m form s o)
   pub after : Steady m (stateAfter m (stepOf m form s o))
 
