@@ -115,13 +115,15 @@ reads-named m form s o h stuck e i r = r
 
 module _ (m : Module) (ok : ModuleOk m) (form : Bytes) (form-bytes : AllBytes form) where
   -- one step of both
-  record SameStep (t s o : Bytes) : Type 0 where
-    effect : effectOf m form (view t) ≡ effectOf m form (view s)
-    output : outputAfter (stepOf m form t o) ≡ outputAfter (stepOf m form s o)
-    state : SameButPages (stateAfter m (stepOf m form t o)) (stateAfter m (stepOf m form s o))
+  pub record SameStep (t s o : Bytes) : Type 0 where
+    pub effect : effectOf m form (view t) ≡ effectOf m form (view s)
+    pub output : outputAfter (stepOf m form t o) ≡ outputAfter (stepOf m form s o)
+    pub state : SameButPages (stateAfter m (stepOf m form t o)) (stateAfter m (stepOf m form s o))
 
-  same-step : (t s o : Bytes) → Steady m s → view s .status ≡ 0 → SameButPages t s → AgreeOnNamed m form t s → SameStep t s o
-  same-step t s o h z p g =
+  -- that agree on the bytes that the step reads
+  pub same-reads : (t s o : Bytes) → Steady m s → view s .status ≡ 0 → SameButPages t s
+      → ((i : ℕ) → i < memoryBytes → Reads (effectOf m form (view s)) i → byteAt t (memoryPlace i) ≡ byteAt s (memoryPlace i)) → SameStep t s o
+  same-reads t s o h z p g =
       let k = step-steady m ok form form-bytes s o h z .safe in
       let e : effectOf m form (view t) ≡ effectOf m form (view s) = k .decides t p in
       let fr : view t .frames ≡ view s .frames = ap (λ (v : View). v .frames) (view-pages t s p) in
@@ -131,8 +133,13 @@ module _ (m : Module) (ok : ModuleOk m) (form : Bytes) (form-bytes : AllBytes fo
         output = ap₂ (λ (c : ℕ) (x : Effect). applyOutput c x o) n e;
         state = subst (λ (x : Bytes). SameButPages x (stateAfter m (stepOf m form s o)))
             (ap₂ (λ (i : ℕ) (x : Effect). applyState m (topOf i) x t) (sym fr) (sym e))
-            (k .reads t p (λ i l r. g i l (reads-named m form s o k (effectOf m form (view s)) refl i r)));
+            (k .reads t p g);
       }
+
+  same-step : (t s o : Bytes) → Steady m s → view s .status ≡ 0 → SameButPages t s → AgreeOnNamed m form t s → SameStep t s o
+  same-step t s o h z p g =
+      let k = step-steady m ok form form-bytes s o h z .safe in
+      same-reads t s o h z p (λ i l r. g i l (reads-named m form s o k (effectOf m form (view s)) refl i r))
 
   pub same-run : (b : ℕ) (t s o : Bytes) → Steady m s → SameButPages t s → AgreeOnRun m form b t s o → SameRun (runOf m form b t o) (runOf m form b s o)
   unfolding runOf effectsOf

@@ -15,4 +15,5 @@ pub mod Sound
 pub mod Demand3
 pub mod ForCode
 pub mod Audit
+pub mod Unowned
 pub mod Instance
