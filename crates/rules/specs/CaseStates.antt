@@ -2,8 +2,7 @@
 use mathlib.Core.List.{List, [], _∷_}
 use Prim.Native.Nat.{ℕ}
 use lib.ListN.{length, getD}
-use Rattle.words.specs.Bytes.{Bytes}
-use Rattle.rules.specs.Types.{RegionKind, variable, Region, region, Tree, int, ptr, arr, struct}
+use Rattle.rules.specs.Types.{RegionKind, variable, region, Tree, int, ptr, arr, struct}
 use Rattle.rules.specs.Module.{Instruction, call, return, Function, Module}
 use Rattle.rules.specs.State.{View}
 use Rattle.rules.specs.Step.{Effect, effectOf}

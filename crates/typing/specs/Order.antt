@@ -3,31 +3,25 @@
 use mathlib.Core.Path.{_≡_, refl, sym, ap, _∙_, subst}
 use mathlib.Core.Bool.{Bool, true, false, cond, false≢true}
 use mathlib.Core.Logic.{_⊎_, inl, inr, _≢_}
-use mathlib.Core.List.{List, [], _∷_}
 use Prim.Native.Nat.{ℕ, zero, suc, _+_, _-_, _*_, _/_, _%_, _<_, _≤_}
 use native.Mathlib.Nat.{not-suc-le-zero}
 use native.Mathlib.Decide.{ℕ-discrete, decLt}
 use native.Mathlib.Omega.{arith}
 use lib.Dec.{eqb}
-use lib.ListN.{getD}
 use borrow.Author.Tests.{eq-eqb, ne-eqb}
 use Rattle.words.specs.Bytes.{Bytes}
 use Rattle.rules.specs.Decide.{does-true}
-use Rattle.rules.specs.File.{blocks, placeRight, checkRight, recordOf, instructionsOf, blockStage, blockTest}
-use Rattle.rules.specs.Walk.{whole}
-use Rattle.rules.specs.Records.{recordTest, recordStage}
-use Rattle.rules.specs.Module.{Module, Function}
+use Rattle.rules.specs.File.{blocks, placeRight, checkRight, recordOf, instructionsOf, blockTest}
+use Rattle.rules.specs.Records.{recordTest}
 use Rattle.rules.specs.Decode.{codeAt, codePlaces, structStart, functionOf, moduleOf, startOf, instructionAt}
 use Rattle.rules.specs.Typing.{Typed}
 use Rattle.rules.specs.Decision.{decTyped}
 use Rattle.rules.specs.WellTyped.{TermOk, StructOk, FunctionOk, EntryOk, Last, decTerm, decStruct, decLast}
-use Rattle.rules.specs.Verdict.{Broken, termTest, structTest, functionTest, instructionTest, instructionStage, termStage, structStage, functionStage, lastStage, lastTest, verdictOf}
-use Rattle.rules.specs.declared.Verdict.{Verdict}
-use Rattle.rules.specs.declared.Verdict.the-variants.{Accepted, Refused}
-use Rattle.typing.specs.Stages.{Passes, Fails, FirstOf}
+use Rattle.rules.specs.Verdict.{Broken, termTest, structTest, instructionTest, instructionStage, lastTest, verdictOf}
+use Rattle.rules.specs.declared.Verdict.the-variants.{Refused}
 use Rattle.typing.specs.Walk.{Fits, endOf, skip, skip-from, skip-less, place-at, code-from, end-from, good}
 use Rattle.typing.specs.Accepted.{even-test, odd-test, module-ranges}
-use Rattle.typing.specs.Refused.{Passed, Where, fileLength, block, record-at, term, struct, function, instruction, last, where-refused, not-lower, broken-number, function-test}
+use Rattle.typing.specs.Refused.{Passed, Where, fileLength, block, record-at, term, struct, function, instruction, last, where-refused, not-lower, function-test}
 
 -- "2 place or count of a block, 3 its check: block by block, 2 first": 2 and 3 stand in one row, two steps for each block
 abbrev pub row : ℕ → ℕ

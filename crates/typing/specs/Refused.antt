@@ -1,26 +1,23 @@
 -- What a refusal means: its rule is broken at its place, and in an accepted file no rule is broken. Assumes nothing.
 use mathlib.Core.Path.{_≡_, refl, sym, ap, _∙_, subst}
-use mathlib.Core.Bool.{Bool, true, false, cond, false≢true}
+use mathlib.Core.Bool.{true, false, false≢true}
 use mathlib.Core.Logic.{_⊎_, inl, inr}
-use mathlib.Core.List.{List, [], _∷_, _++_}
+use mathlib.Core.List.{[], _∷_}
 use Prim.Native.Nat.{ℕ, zero, suc, _+_, _-_, _*_, _/_, _%_, _<_, _≤_}
-use native.Mathlib.Decide.{ℕ-discrete, decLt}
+use native.Mathlib.Decide.{ℕ-discrete}
 use native.Mathlib.Omega.{arith}
-use lib.Dec.{eqb}
 use borrow.Author.Tests.{eq-eqb, ne-eqb}
 use Rattle.words.specs.Bytes.{Bytes, listOf}
-use Rattle.rules.specs.Decide.{does, does-false, does-true, decBoth, decImp}
-use Rattle.rules.specs.Stages.{Stage, verdict}
-use Rattle.rules.specs.File.{blocks, records, placeRight, checkRight, lengthStage, blockStage, blockTest}
-use Rattle.rules.specs.Records.{recordTest, recordStage}
-use Rattle.rules.specs.Module.{Module, Function}
+use Rattle.rules.specs.Decide.{does-false, does-true, decBoth, decImp}
+use Rattle.rules.specs.Stages.{verdict}
+use Rattle.rules.specs.File.{lengthStage, blockStage, blockTest}
+use Rattle.rules.specs.Records.{recordStage}
 use Rattle.rules.specs.Decode.{moduleOf, startOf}
 use Rattle.rules.specs.Decision.{decTyped}
 use Rattle.rules.specs.WellTyped.{FunctionOk, EntryOk, decTerm, decStruct, decFunction, decEntry, decLast}
 use Rattle.rules.specs.Verdict.{Broken, termTest, structTest, functionTest, instructionTest, instructionStage, termStage, structStage, functionStage, lastStage, lastTest, moduleStages, acceptedAs, moduleRules, recordRules, verdictOf}
 use Rattle.rules.specs.Claim.{IsAccepted}
-use Rattle.rules.specs.declared.Verdict.{Verdict}
-use Rattle.rules.specs.declared.Verdict.the-variants.{Accepted, Refused}
+use Rattle.rules.specs.declared.Verdict.the-variants.{Refused}
 use Rattle.typing.specs.Stages.{Passes, AllPass, pass-append, pass-each, verdict-append, Fails, FirstIn, here, later, first-in, in-append, FirstOf, in-list}
 use Rattle.typing.specs.Accepted.{stages, no-failure, even-test, odd-test}
 
