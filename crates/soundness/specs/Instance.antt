@@ -79,22 +79,22 @@ pub accepted : verdictOf example ≡ Accepted 2 0 2 8
 unfolding example number little listFrom firstFrom first sumBelow decBoth decEither decImp decAll decThe mapDec decList decEach asInt asPtr asArr decReg withInt withPtr anInt aPtr decConstant decCopy decOperate decZero decSigned decAddress decCheck decField decIndex decThrough decLoad decStore decWhole decNew decFree decInput decOutput decJump decBranch decCall decReturn decTyped regionBytes treeOf treesOf fieldsOf places codePlaces callOf arithmeticOf memoryOf controlOf byGroup instructionOf codeOf functionOf moduleOf startOf instructionAt checkSum blockTest records recordStart recordOf groupOf decPlaced decPrims beside copiesOf copies subLayout flatWith fieldsFrom fieldsWith layouts flat structFlat decRun decSame operandTable classesOf operandFits along quickRecords quickOf four seven fourLoose sevenLoose termFits nameFits headRanges functionFits listFits regionBytesFit instructionFits argumentsFit fitsIn fits recordTestWith verdict decRegion sub decTree decUses decPrimitive termTest structTest functionTest instructionTest instructionStage lastTest moduleStages instructions moduleRules toCode toRegisters openedFunction done toFunction toName step next nextScan scan whole decCounts decTerm decStruct scopeOf decFunction decEntry decLast ℕ-discrete decLt decLe recordsBytes fileOf file
 accepted = agree (case example (Accepted 2 0 2 8) ∷ []) refl .0
 
-acceptedExample : IsAccepted (verdictOf example)
-acceptedExample = subst IsAccepted (sym accepted) tt
+accepted-example : IsAccepted (verdictOf example)
+accepted-example = subst IsAccepted (sym accepted) tt
 
 -- "no page is owned and all page bytes are zero": the state that opening leaves, without arguments
 pub start : Bytes
 start = firstState (moduleOf example) []
 
-noParameters : moduleOf example .function 0 .params ≡ 0
+no-parameters : moduleOf example .function 0 .params ≡ 0
 unfolding example recordsBytes fileOf file bit withBit number little splice listFrom firstFrom first decBoth decEither decImp decNot decAll decAny decThe mapDec decList decEach decRegion sub decTree decPlaced decPrims beside copiesOf copies subLayout flatWith fieldsFrom fieldsWith layouts flat decRun positionAt decSame asInt asPtr asArr decReg withInt withPtr anInt aPtr decConstant decCopy decOperate decZero decSigned decAddress decCheck decField decIndex decThrough decLoad decStore decWhole decNew decFree decInput decOutput decJump decBranch decCall decReturn decTyped frameFunction frameInstruction frameRegister frameMap pageOwner pageMark memoryByte view memoryNumber written wordsOf frameOf decLocal decLive localList liveList look typeOf decStands decValue operationOf flag valueIf leftBy rightBy magnitude nearestOf signedBy nearestBy biased operated signExtended need onInt onPtr onArr decIsCall decStandsAtCall onCall isIn lowest lowestNumbers decHome unusedPlace hasRoom roomPage unownedPage allocate notZero computed decHeld calleeMap calleeRegisters returned exec effectAt effectOf closedPages closing leaving stateWrites outputWrites applyState applyOutput runOf stuckSteps decCounts decTerm decStruct structFlat decUses regionBytes treeOf treesOf fieldsOf places codePlaces callOf arithmeticOf memoryOf controlOf byGroup instructionOf codeOf functionOf moduleOf records recordStart recordOf groupOf toCode toRegisters openedFunction done toFunction toName step next nextScan scan whole outcomeOf wentOf firstRegister firstState objectIn ℕ-discrete decLt decLe
-noParameters = refl
+no-parameters = refl
 
-pub openedExample : openOf example [] (replicate stateBytes 0) ≡ opened start
+pub opened-example : openOf example [] (replicate stateBytes 0) ≡ opened start
 unfolding openOf start
-openedExample =
-    verdict-accepted notOpened (verdictOf example) _ acceptedExample
-    ∙ cond-eq _ (notOpened 9 0) {m = 0} {n = 4 * moduleOf example .function 0 .params} (ap (λ (n : ℕ). 4 * n) (sym noParameters))
+opened-example =
+    verdict-accepted notOpened (verdictOf example) _ accepted-example
+    ∙ cond-eq _ (notOpened 9 0) {m = 0} {n = 4 * moduleOf example .function 0 .params} (ap (λ (n : ℕ). 4 * n) (sym no-parameters))
     ∙ cond-eq (opened (firstState (moduleOf example) [])) (notOpened 20 0) (length-replicate {A = ℕ} stateBytes 0)
 
 -- ---- the run
@@ -107,22 +107,22 @@ pub ran : Trace
 ran = runOf (moduleOf example) [] 1000 start output
 
 -- page 1 granted to region 0; 42; stored at 256; function 1 with region 0 and the pointer; loaded; returned into register 2; freed; ended
-pub ranEffects : effects (ran .steps) ≡ (4 ∷ 1 ∷ 0 ∷ 0 ∷ []) ∷ (0 ∷ 1 ∷ 42 ∷ []) ∷ (2 ∷ 0 ∷ 256 ∷ 4 ∷ 42 ∷ []) ∷ (8 ∷ 1 ∷ 0 ∷ 256 ∷ []) ∷ (1 ∷ 0 ∷ 1 ∷ 256 ∷ 4 ∷ []) ∷ (9 ∷ 0 ∷ 2 ∷ 42 ∷ []) ∷ (5 ∷ 1 ∷ 0 ∷ []) ∷ (10 ∷ 42 ∷ []) ∷ []
+pub ran-effects : effects (ran .steps) ≡ (4 ∷ 1 ∷ 0 ∷ 0 ∷ []) ∷ (0 ∷ 1 ∷ 42 ∷ []) ∷ (2 ∷ 0 ∷ 256 ∷ 4 ∷ 42 ∷ []) ∷ (8 ∷ 1 ∷ 0 ∷ 256 ∷ []) ∷ (1 ∷ 0 ∷ 1 ∷ 256 ∷ 4 ∷ []) ∷ (9 ∷ 0 ∷ 2 ∷ 42 ∷ []) ∷ (5 ∷ 1 ∷ 0 ∷ []) ∷ (10 ∷ 42 ∷ []) ∷ []
 unfolding start output ran shown effects example recordsBytes fileOf file bit withBit number little splice listFrom firstFrom first decBoth decEither decImp decNot decAll decAny decThe mapDec decList decEach decRegion sub decTree decPlaced decPrims beside copiesOf copies subLayout flatWith fieldsFrom fieldsWith layouts flat decRun positionAt decSame asInt asPtr asArr decReg withInt withPtr anInt aPtr decConstant decCopy decOperate decZero decSigned decAddress decCheck decField decIndex decThrough decLoad decStore decWhole decNew decFree decInput decOutput decJump decBranch decCall decReturn decTyped frameFunction frameInstruction frameRegister frameMap pageOwner pageMark memoryByte view memoryNumber written wordsOf frameOf decLocal decLive localList liveList look typeOf decStands decValue operationOf flag valueIf leftBy rightBy magnitude nearestOf signedBy nearestBy biased operated signExtended need onInt onPtr onArr decIsCall decStandsAtCall onCall isIn lowest lowestNumbers decHome unusedPlace hasRoom roomPage unownedPage allocate notZero computed decHeld calleeMap calleeRegisters returned exec effectAt effectOf closedPages closing leaving stateWrites outputWrites applyState applyOutput runOf stuckSteps decCounts decTerm decStruct structFlat decUses regionBytes treeOf treesOf fieldsOf places codePlaces callOf arithmeticOf memoryOf controlOf byGroup instructionOf codeOf functionOf moduleOf records recordStart recordOf groupOf toCode toRegisters openedFunction done toFunction toName step next nextScan scan whole outcomeOf wentOf firstRegister firstState objectIn ℕ-discrete decLt decLe
-ranEffects = refl
+ran-effects = refl
 
-ranOutcome : outcomeOf (view (ran .state)) ≡ ended 42
+ran-outcome : outcomeOf (view (ran .state)) ≡ ended 42
 unfolding start output ran example recordsBytes fileOf file bit withBit number little splice listFrom firstFrom first decBoth decEither decImp decNot decAll decAny decThe mapDec decList decEach decRegion sub decTree decPlaced decPrims beside copiesOf copies subLayout flatWith fieldsFrom fieldsWith layouts flat decRun positionAt decSame asInt asPtr asArr decReg withInt withPtr anInt aPtr decConstant decCopy decOperate decZero decSigned decAddress decCheck decField decIndex decThrough decLoad decStore decWhole decNew decFree decInput decOutput decJump decBranch decCall decReturn decTyped frameFunction frameInstruction frameRegister frameMap pageOwner pageMark memoryByte view memoryNumber written wordsOf frameOf decLocal decLive localList liveList look typeOf decStands decValue operationOf flag valueIf leftBy rightBy magnitude nearestOf signedBy nearestBy biased operated signExtended need onInt onPtr onArr decIsCall decStandsAtCall onCall isIn lowest lowestNumbers decHome unusedPlace hasRoom roomPage unownedPage allocate notZero computed decHeld calleeMap calleeRegisters returned exec effectAt effectOf closedPages closing leaving stateWrites outputWrites applyState applyOutput runOf stuckSteps decCounts decTerm decStruct structFlat decUses regionBytes treeOf treesOf fieldsOf places codePlaces callOf arithmeticOf memoryOf controlOf byGroup instructionOf codeOf functionOf moduleOf records recordStart recordOf groupOf toCode toRegisters openedFunction done toFunction toName step next nextScan scan whole outcomeOf wentOf firstRegister firstState objectIn ℕ-discrete decLt decLe
-ranOutcome = refl
+ran-outcome = refl
 
-ranSteps : length (ran .steps) ≡ 8
+ran-steps : length (ran .steps) ≡ 8
 unfolding start output ran example recordsBytes fileOf file bit withBit number little splice listFrom firstFrom first decBoth decEither decImp decNot decAll decAny decThe mapDec decList decEach decRegion sub decTree decPlaced decPrims beside copiesOf copies subLayout flatWith fieldsFrom fieldsWith layouts flat decRun positionAt decSame asInt asPtr asArr decReg withInt withPtr anInt aPtr decConstant decCopy decOperate decZero decSigned decAddress decCheck decField decIndex decThrough decLoad decStore decWhole decNew decFree decInput decOutput decJump decBranch decCall decReturn decTyped frameFunction frameInstruction frameRegister frameMap pageOwner pageMark memoryByte view memoryNumber written wordsOf frameOf decLocal decLive localList liveList look typeOf decStands decValue operationOf flag valueIf leftBy rightBy magnitude nearestOf signedBy nearestBy biased operated signExtended need onInt onPtr onArr decIsCall decStandsAtCall onCall isIn lowest lowestNumbers decHome unusedPlace hasRoom roomPage unownedPage allocate notZero computed decHeld calleeMap calleeRegisters returned exec effectAt effectOf closedPages closing leaving stateWrites outputWrites applyState applyOutput runOf stuckSteps decCounts decTerm decStruct structFlat decUses regionBytes treeOf treesOf fieldsOf places codePlaces callOf arithmeticOf memoryOf controlOf byGroup instructionOf codeOf functionOf moduleOf records recordStart recordOf groupOf toCode toRegisters openedFunction done toFunction toName step next nextScan scan whole outcomeOf wentOf firstRegister firstState objectIn ℕ-discrete decLt decLe
-ranSteps = refl
+ran-steps = refl
 
 -- one page granted and one handed back
-pub ranPages : (granted (ran .steps) ≡ 1) × (handedBack (moduleOf example) (ran .steps) ≡ 1)
+pub ran-pages : (granted (ran .steps) ≡ 1) × (handedBack (moduleOf example) (ran .steps) ≡ 1)
 unfolding start output ran granted handedBack example recordsBytes fileOf file bit withBit number little splice listFrom firstFrom first decBoth decEither decImp decNot decAll decAny decThe mapDec decList decEach decRegion sub decTree decPlaced decPrims beside copiesOf copies subLayout flatWith fieldsFrom fieldsWith layouts flat decRun positionAt decSame asInt asPtr asArr decReg withInt withPtr anInt aPtr decConstant decCopy decOperate decZero decSigned decAddress decCheck decField decIndex decThrough decLoad decStore decWhole decNew decFree decInput decOutput decJump decBranch decCall decReturn decTyped frameFunction frameInstruction frameRegister frameMap pageOwner pageMark memoryByte view memoryNumber written wordsOf frameOf decLocal decLive localList liveList look typeOf decStands decValue operationOf flag valueIf leftBy rightBy magnitude nearestOf signedBy nearestBy biased operated signExtended need onInt onPtr onArr decIsCall decStandsAtCall onCall isIn lowest lowestNumbers decHome unusedPlace hasRoom roomPage unownedPage allocate notZero computed decHeld calleeMap calleeRegisters returned exec effectAt effectOf closedPages closing leaving stateWrites outputWrites applyState applyOutput runOf stuckSteps decCounts decTerm decStruct structFlat decUses regionBytes treeOf treesOf fieldsOf places codePlaces callOf arithmeticOf memoryOf controlOf byGroup instructionOf codeOf functionOf moduleOf records recordStart recordOf groupOf toCode toRegisters openedFunction done toFunction toName step next nextScan scan whole outcomeOf wentOf firstRegister firstState objectIn ℕ-discrete decLt decLe
-ranPages = (refl, refl)
+ran-pages = (refl, refl)
 
 -- ---- going on, and the claim
 
@@ -133,13 +133,13 @@ no-bytes i = omega arith
 pub example-goes : goOf example [] start output 1000 ≡ went (ended 42) 8 (ran .state) (ran .output)
 unfolding ran output
 example-goes =
-    let s = opened-steady example [] (replicate stateBytes 0) start acceptedExample no-bytes openedExample in
-    go-went example [] start output 1000 acceptedExample no-bytes (omega arith) (s .0 .bytes) (s .0 .passes) (s .1) (length-replicate {A = ℕ} outputBytes 0)
-    ∙ ap₂ (λ (a : Outcome) (n : ℕ). went a n (ran .state) (ran .output)) ranOutcome ranSteps
+    let s = opened-steady example [] (replicate stateBytes 0) start accepted-example no-bytes opened-example in
+    go-went example [] start output 1000 accepted-example no-bytes (omega arith) (s .0 .bytes) (s .0 .passes) (s .1) (length-replicate {A = ℕ} outputBytes 0)
+    ∙ ap₂ (λ (a : Outcome) (n : ℕ). went a n (ran .state) (ran .output)) ran-outcome ran-steps
 
 -- demand 3 for every list of calls of it, from its opening
 pub example-sound : (calls : List Call) → Lent example calls start → Claim example calls start
-example-sound calls l = demand-3 example acceptedExample calls start (fromOpening [] (replicate stateBytes 0) no-bytes openedExample) l
+example-sound calls l = demand-3 example accepted-example calls start (fromOpening [] (replicate stateBytes 0) no-bytes opened-example) l
 
 -- and of the list of this one call
 pub oneCall : Call

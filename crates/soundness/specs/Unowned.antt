@@ -48,7 +48,6 @@ pub record SameButUnowned (t s : Bytes) : Type 0 where
 touched-owned : (m : Module) (v : View) (k b x w i : ℕ) → Touches m v k b x w → x ≤ i → i < x + w → v .owner (i / pageBytes) ≢ 0
 touched-owned m v k b x w i t l h z =
     let r = t .bytes i l h in
-    let T = t .target in
     let inside : r .distance + _ ≤ size m (close (v .map k) (t .target)) = flat-inside m (close (v .map k) (t .target)) (r .has) in
     let o = t .object i l (omega (arith, r .high, inside, size-close (v .map k) m (t .target))) in
     let same : i / pageBytes ≡ x / pageBytes = omega (arith, o .low, o .high, o .whole) in
