@@ -3,10 +3,8 @@
 -- whole run, page bytes bear on what it does, answers and writes out through those runs alone. Assumes nothing.
 use mathlib.Core.Path.{_≡_, refl, sym, ap, ap₂, _∙_, subst}
 use mathlib.Core.Bool.{Bool, true, false, true≢false, false≢true}
-use mathlib.Core.Logic.{_⊎_, inl, inr}
 use mathlib.Core.List.{List, [], _∷_}
 use Prim.Native.Nat.{ℕ, zero, suc, _+_, _<_, _≤_}
-use native.Mathlib.Omega.{arith}
 use lib.Dec.{eqb}
 use borrow.Author.Tests.{eqb-true}
 use Rattle.words.specs.Bytes.{Bytes, AllBytes, byteAt}
@@ -26,6 +24,7 @@ use Rattle.state.specs.Update.{memoryNumber-agree}
 use Rattle.state.specs.Areas.{memory-agree}
 use Rattle.state.specs.Independence.{view-pages}
 use Rattle.soundness.specs.Facts.{ModuleOk, accepted-ok}
+use Rattle.soundness.specs.Sound.{topFrame}
 use Rattle.soundness.specs.ForCode.{Steady, step-steady}
 
 -- Address i lies in the run that the type of a load's pointer register names, in state v with top frame k.
@@ -54,15 +53,15 @@ Named m v k stuck i = ⊥
 -- two states agree on the page bytes that the next effect's pointer names
 abbrev pub AgreeOnNamed : Module → (form t s : Bytes) → Type 0
 AgreeOnNamed m form t s =
-    (i : ℕ) → i < memoryBytes → Named m (view s) (topOf (view s .frames)) (effectOf m form (view s)) i → byteAt t (memoryPlace i) ≡ byteAt s (memoryPlace i)
+    (i : ℕ) → i < memoryBytes → Named m (view s) (topFrame s) (effectOf m form (view s)) i → byteAt t (memoryPlace i) ≡ byteAt s (memoryPlace i)
 
 -- ---- one load
 
 -- What a load through register b at address x of w bytes can reach: the run that the pointer's type names, inside one object; and every
 -- state that agrees on it, whatever its other page bytes are, gives the same value.
 pub record Reach (m : Module) (s : Bytes) (b x w : ℕ) : Type 0 where
-  pub named : Touches m (view s) (topOf (view s .frames)) b x w
-  pub decides : (t : Bytes) → ((i : ℕ) → i < memoryBytes → InRun m (close (view s .map (topOf (view s .frames))) (named .target)) x i → byteAt t (memoryPlace i) ≡ byteAt s (memoryPlace i))
+  pub named : Touches m (view s) (topFrame s) b x w
+  pub decides : (t : Bytes) → ((i : ℕ) → i < memoryBytes → InRun m (close (view s .map (topFrame s)) (named .target)) x i → byteAt t (memoryPlace i) ≡ byteAt s (memoryPlace i))
       → memoryNumber (view t .memory) x w ≡ memoryNumber (view s .memory) x w
 
 -- equal bytes, equal numbers
@@ -97,7 +96,7 @@ AgreeOnRun m form (suc b) t s o =
     view s .status ≡ 0 → AgreeOnNamed m form t s × AgreeOnRun m form b (stateAfter m (stepOf m form t o)) (stateAfter m (stepOf m form s o)) (outputAfter (stepOf m form s o))
 
 -- a load reads only what its pointer names
-reads-named : (m : Module) (form s o : Bytes) → SafeStep m (stepOf m form s o) → (e : Effect) → effectOf m form (view s) ≡ e → (i : ℕ) → Reads e i → Named m (view s) (topOf (view s .frames)) e i
+reads-named : (m : Module) (form s o : Bytes) → SafeStep m (stepOf m form s o) → (e : Effect) → effectOf m form (view s) ≡ e → (i : ℕ) → Reads e i → Named m (view s) (topFrame s) e i
 reads-named m form s o h (set a x) e i r = r
 reads-named m form s o h (fetch b a x w) e i r =
     let t = h .loads b a x w e in
@@ -116,13 +115,15 @@ reads-named m form s o h stuck e i r = r
 
 module _ (m : Module) (ok : ModuleOk m) (form : Bytes) (form-bytes : AllBytes form) where
   -- one step of both
-  record SameStep (t s o : Bytes) : Type 0 where
-    effect : effectOf m form (view t) ≡ effectOf m form (view s)
-    output : outputAfter (stepOf m form t o) ≡ outputAfter (stepOf m form s o)
-    state : SameButPages (stateAfter m (stepOf m form t o)) (stateAfter m (stepOf m form s o))
+  pub record SameStep (t s o : Bytes) : Type 0 where
+    pub effect : effectOf m form (view t) ≡ effectOf m form (view s)
+    pub output : outputAfter (stepOf m form t o) ≡ outputAfter (stepOf m form s o)
+    pub state : SameButPages (stateAfter m (stepOf m form t o)) (stateAfter m (stepOf m form s o))
 
-  same-step : (t s o : Bytes) → Steady m s → view s .status ≡ 0 → SameButPages t s → AgreeOnNamed m form t s → SameStep t s o
-  same-step t s o h z p g =
+  -- that agree on the bytes that the step reads
+  pub same-reads : (t s o : Bytes) → Steady m s → view s .status ≡ 0 → SameButPages t s
+      → ((i : ℕ) → i < memoryBytes → Reads (effectOf m form (view s)) i → byteAt t (memoryPlace i) ≡ byteAt s (memoryPlace i)) → SameStep t s o
+  same-reads t s o h z p g =
       let k = step-steady m ok form form-bytes s o h z .safe in
       let e : effectOf m form (view t) ≡ effectOf m form (view s) = k .decides t p in
       let fr : view t .frames ≡ view s .frames = ap (λ (v : View). v .frames) (view-pages t s p) in
@@ -132,8 +133,13 @@ module _ (m : Module) (ok : ModuleOk m) (form : Bytes) (form-bytes : AllBytes fo
         output = ap₂ (λ (c : ℕ) (x : Effect). applyOutput c x o) n e;
         state = subst (λ (x : Bytes). SameButPages x (stateAfter m (stepOf m form s o)))
             (ap₂ (λ (i : ℕ) (x : Effect). applyState m (topOf i) x t) (sym fr) (sym e))
-            (k .reads t p (λ i l r. g i l (reads-named m form s o k (effectOf m form (view s)) refl i r)));
+            (k .reads t p g);
       }
+
+  same-step : (t s o : Bytes) → Steady m s → view s .status ≡ 0 → SameButPages t s → AgreeOnNamed m form t s → SameStep t s o
+  same-step t s o h z p g =
+      let k = step-steady m ok form form-bytes s o h z .safe in
+      same-reads t s o h z p (λ i l r. g i l (reads-named m form s o k (effectOf m form (view s)) refl i r))
 
   pub same-run : (b : ℕ) (t s o : Bytes) → Steady m s → SameButPages t s → AgreeOnRun m form b t s o → SameRun (runOf m form b t o) (runOf m form b s o)
   unfolding runOf effectsOf

@@ -1,14 +1,13 @@
 -- A safe effect of a good state keeps within the layout's bounds, so the bytes that it leaves are those of the view after it.
 -- Assumes nothing.
-use mathlib.Core.Path.{_≡_, refl, sym, ap, _∙_, subst}
-use mathlib.Core.Logic.{_⊎_, inl, inr}
-use Prim.Native.Nat.{ℕ, zero, suc, _+_, _*_, _-_, _^_, _<_, _≤_}
+use mathlib.Core.Path.{_≡_, _∙_, subst}
+use Prim.Native.Nat.{ℕ, suc, _+_, _-_, _^_, _<_, _≤_}
 use native.Mathlib.Nat.{le-trans, pow-le-pow-right, suc-inj}
 use native.Mathlib.Decide.{decLt}
 use native.Mathlib.Omega.{arith}
-use Rattle.rules.specs.Limits.{pages, pageBytes, mostFrames, mostRegisters, mostRegions, liveRegions, outputBytes, memoryBytes}
-use Rattle.rules.specs.Types.{live, region, Tree, width, arg}
-use Rattle.rules.specs.Module.{Module, Function, regions, argument}
+use Rattle.rules.specs.Limits.{liveRegions, outputBytes}
+use Rattle.rules.specs.Types.{region, width, arg}
+use Rattle.rules.specs.Module.{Module, regions, argument}
 use Rattle.rules.specs.State.{View}
 use Rattle.rules.specs.Heap.{close, Live, HeapTyping, heapTyping, Value}
 use Rattle.rules.specs.Step.{Effect, set, fetch, save, takePlace, grantPage, freePlace, goTo, emit, push, pop, finish, stop, stuck}
@@ -18,7 +17,7 @@ use Rattle.state.specs.Effects.{Onward, InRegister, Bounded}
 use Rattle.soundness.specs.Facts.{ModuleOk}
 use Rattle.soundness.specs.Good.{Good, map-numbered}
 use Rattle.soundness.specs.Preserve.{SafePush}
-use Rattle.soundness.specs.Safe.{Next, SafeSet, Safe}
+use Rattle.soundness.specs.Safe.{Next, Safe}
 
 module _ (m : Module) (ok : ModuleOk m) (v : View) (k : ℕ) (g : Good m v (suc k)) where
   -- a value of a register of frame j is a number of four bytes
@@ -72,21 +71,27 @@ module _ (m : Module) (ok : ModuleOk m) (v : View) (k : ℕ) (g : Good m v (suc 
   pub bounded : v .outputCount ≤ outputBytes → (e : Effect) → Safe m v k e → Bounded v k e
   bounded o (set a x) f = (onward (f .next), held (heapTyping m v (suc k)) k a x (omega arith) (f .register) (f .value))
   bounded o (fetch b a x w) f =
-      let facts = ok .function (v .fn k) (g .frames .known k (omega arith)) in
-      (onward (f .next), (omega (arith, f .register, facts .ranges .registers),
-      rw (f .bytes ∙ close-width (v .map k) (m .function (v .fn k) .registerType a)) (facts .registerWidth a (f .register) .1)))
+      let facts = ok .function (v .fn k) (g .frames .known k (omega arith)) in (
+        onward (f .next),
+        (
+          omega (arith, f .register, facts .ranges .registers),
+          rw (f .bytes ∙ close-width (v .map k) (m .function (v .fn k) .registerType a)) (facts .registerWidth a (f .register) .1),
+        ),
+      )
   bounded o (save b x w y) f =
       let s = f .slot in
       (onward (f .next), omega (arith, f .bytes, slot-inside m (heapTyping m v (suc k)) x (f .type) (f .slot), s .address, s .fits, s .inside))
   bounded o (takePlace p j a x) f =
       (onward (f .register .next), (record { page = f .inside; place = f .place }, held (heapTyping m v (suc k)) k a x (omega arith) (f .register .register) (f .register .value)))
   bounded o (grantPage p r a) f =
-      let facts = ok .function (v .fn k) (g .frames .known k (omega arith)) in
-      (onward (f .register .next), record {
-        page = f .inside;
-        owner = omega (arith, live-small r (f .alive));
-        register = omega (arith, f .register .register, facts .ranges .registers);
-      })
+      let facts = ok .function (v .fn k) (g .frames .known k (omega arith)) in (
+        onward (f .register .next),
+        record {
+          page = f .inside;
+          owner = omega (arith, live-small r (f .alive));
+          register = omega (arith, f .register .register, facts .ranges .registers);
+        },
+      )
   bounded o (freePlace p j) f = (onward (f .next), record { page = f .inside; place = f .place })
   bounded o (goTo d) f = (g .frames .few, omega (arith, f, ok .function (v .fn k) (g .frames .known k (omega arith)) .ranges .instructions))
   bounded o (emit x) f = (onward (f .0), omega (arith, f .1))

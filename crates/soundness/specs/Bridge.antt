@@ -9,14 +9,13 @@ use lib.ListN.{length}
 use Rattle.words.specs.Bytes.{Bytes}
 use Rattle.rules.specs.Limits.{pages, pageBytes, stateBytes}
 use Rattle.rules.specs.Decide.{Each, none, more}
-use Rattle.rules.specs.Types.{RegionKind, live, Tree, width}
+use Rattle.rules.specs.Types.{RegionKind, live, Tree}
 use Rattle.rules.specs.Module.{Module, Function, regions}
-use Rattle.rules.specs.Flat.{Placed, at, off, type, Has, here, there, Layout, flat, size}
-use Rattle.rules.specs.State.{View, view, memoryNumber, SpareZero}
-use Rattle.rules.specs.Heap.{Live, typeOf, heapTyping, Value}
+use Rattle.rules.specs.Flat.{Placed, at, Has, here, there, flat, size}
+use Rattle.rules.specs.State.{View, view, SpareZero}
+use Rattle.rules.specs.Heap.{Live, typeOf}
 use Rattle.rules.specs.StateTest.{FramesOk, PrimitiveOk, PageOk, ContentsOk, Passes}
 use Rattle.layout.specs.Close.{size-close}
-use Rattle.layout.specs.Heap.{Slot}
 use Rattle.soundness.specs.Facts.{ModuleOk}
 use Rattle.soundness.specs.Good.{Good, map-typed}
 use Rattle.soundness.specs.Step.{Test}

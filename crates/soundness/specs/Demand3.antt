@@ -3,24 +3,24 @@
 use mathlib.Core.Path.{_≡_, refl, sym, ap, _∙_, subst}
 use mathlib.Core.Bool.{Bool, true, false, cond, _&&_}
 use mathlib.Core.Logic.{_⊎_, inl, inr}
-use mathlib.Core.List.{List, [], _∷_, _++_}
-use Prim.Native.Nat.{ℕ, zero, suc, _+_, _*_, _<_, _≤_}
+use mathlib.Core.List.{List, [], _∷_}
+use Prim.Native.Nat.{ℕ, zero, suc, _+_, _*_}
 use native.Mathlib.Omega.{arith}
-use lib.Dec.{eqb, ltb, leb}
+use lib.Dec.{eqb, leb}
 use lib.ListN.{length}
-use borrow.Author.Tests.{eqb-true, eq-eqb}
-use Rattle.words.specs.Bytes.{Bytes, AllBytes}
+use borrow.Author.Tests.{eqb-true}
+use Rattle.words.specs.Bytes.{Bytes}
 use Rattle.words.specs.Choose.{cond-yes, cond-eq}
 use Rattle.rules.specs.Limits.{mostForm, outputBytes, stateBytes}
 use Rattle.rules.specs.Decide.{does, does-true}
 use Rattle.rules.specs.Module.{Module}
 use Rattle.rules.specs.Decode.{moduleOf}
 use Rattle.rules.specs.Verdict.{verdictOf}
-use Rattle.rules.specs.State.{View, view}
+use Rattle.rules.specs.State.{view}
 use Rattle.rules.specs.Run.{Step, stepOf, stateAfter, outputAfter, Trace, noSteps, runOf, stuckSteps}
 use Rattle.rules.specs.StateTest.{Passes, decPasses}
-use Rattle.rules.specs.Host.{Outcome, Went, refused, went, noAnswer, Opened, notOpened, opened, Tested, failed, passed, onVerdict, unless, goWith, outcomeOf, wentOf, goOf, traceOf, firstState, openOf, testOf, leftState}
-use Rattle.rules.specs.Claim.{AllSafe, Follows, owned, granted, handedBack, Call, goCall, traceCall, Lent, stepsOf, finalOf, Answered, wasRefused, wasRun, AllAnswered, Start, fromOpening, fromSaved, Claim, IsAccepted, Demand3}
+use Rattle.rules.specs.Host.{Outcome, Went, refused, went, noAnswer, notOpened, opened, failed, passed, onVerdict, outcomeOf, wentOf, goOf, traceOf, firstState, openOf, testOf, leftState}
+use Rattle.rules.specs.Claim.{AllSafe, Follows, owned, granted, handedBack, Call, goCall, traceCall, Lent, stepsOf, finalOf, Answered, wasRefused, wasRun, AllAnswered, Start, fromOpening, fromSaved, IsAccepted, Demand3}
 use Rattle.rules.specs.declared.Verdict.{Verdict}
 use Rattle.rules.specs.declared.Verdict.the-variants.{Accepted, Refused}
 use Rattle.state.specs.Whole.{Whole}

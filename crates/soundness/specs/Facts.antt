@@ -2,13 +2,12 @@
 -- after all kinds but 31 and 34, and the types' laws. All of it follows from the verdict (`accepted-ok`). Assumes nothing.
 use mathlib.Core.Path.{_≡_, sym, subst}
 use mathlib.Core.Logic.{_⊎_, inl, inr}
-use mathlib.Core.List.{List, [], _∷_}
-use Prim.Native.Nat.{ℕ, suc, _<_, _≤_}
-use lib.ListN.{length}
+use mathlib.Core.List.{List}
+use Prim.Native.Nat.{ℕ, _<_, _≤_}
 use Rattle.words.specs.Bytes.{Bytes}
 use Rattle.rules.specs.Limits.{mostFunctions}
 use Rattle.rules.specs.Decide.{Each, none, more}
-use Rattle.rules.specs.Types.{variable, Tree, int, ptr, arr, struct}
+use Rattle.rules.specs.Types.{variable, Tree}
 use Rattle.rules.specs.Module.{Module}
 use Rattle.rules.specs.Decode.{moduleOf}
 use Rattle.rules.specs.WellTyped.{WellTyped, EntryOk}

@@ -14,18 +14,18 @@ use lib.ListN.{length}
 use borrow.Author.Tests.{eqb-true, eq-eqb, ltb-true, leb-true}
 use Rattle.words.specs.Bytes.{Bytes, AllBytes}
 use Rattle.words.specs.Choose.{both, both-of, true-not-false, cond-yes, cond-eq, cond-le}
-use Rattle.rules.specs.Limits.{pages, pageBytes, memoryBytes, mostForm, outputBytes, stateBytes, memoryAt}
+use Rattle.rules.specs.Limits.{pageBytes, memoryBytes, mostForm, outputBytes, stateBytes, memoryAt}
 use Rattle.rules.specs.Decide.{does}
 use Rattle.rules.specs.Module.{Module}
 use Rattle.rules.specs.Flat.{size}
 use Rattle.rules.specs.Decode.{moduleOf}
 use Rattle.rules.specs.Verdict.{verdictOf}
-use Rattle.rules.specs.State.{View, view, memoryPlace, pagePlace, pageOwner}
+use Rattle.rules.specs.State.{View, view, memoryPlace, pagePlace}
 use Rattle.rules.specs.Heap.{typeOf}
-use Rattle.rules.specs.Step.{Effect, stuck, effectOf}
-use Rattle.rules.specs.Run.{Step, topOf, stepOf, stateAfter, outputAfter, Trace, noSteps, runOf, isStuck, stuckSteps}
+use Rattle.rules.specs.Step.{stuck, effectOf}
+use Rattle.rules.specs.Run.{Step, stepOf, stateAfter, outputAfter, Trace, noSteps, runOf, stuckSteps}
 use Rattle.rules.specs.StateTest.{Passes, decPasses}
-use Rattle.rules.specs.Host.{Outcome, ended, stopped, running, Went, refused, went, noAnswer, Opened, opened, Part, emptyPart, onVerdict, outcomeOf, wentOf, goOf, firstState, openOf, objectIn, objectOf}
+use Rattle.rules.specs.Host.{Outcome, ended, stopped, running, Went, refused, went, noAnswer, opened, Part, emptyPart, onVerdict, outcomeOf, wentOf, goOf, firstState, openOf, objectIn, objectOf}
 use Rattle.rules.specs.Claim.{SafeStep, IsAccepted}
 use Rattle.rules.specs.declared.Verdict.{Verdict}
 use Rattle.rules.specs.declared.Verdict.the-variants.{Accepted, Refused}
@@ -34,8 +34,8 @@ use Rattle.state.specs.Reads.{owner-past}
 use Rattle.soundness.specs.Facts.{ModuleOk, accepted-ok}
 use Rattle.soundness.specs.Bridge.{passes-test, test-passes}
 use Rattle.soundness.specs.Opening.{opened-test, opened-whole, opened-running}
-use Rattle.soundness.specs.Sound.{Sound, ready, stepped, run-sound}
-use Rattle.soundness.specs.Demand3.{Paired, refusal, ran, go-paired, verdict-accepted, opened-first, passes-does}
+use Rattle.soundness.specs.Sound.{topFrame, Sound, ready, stepped, run-sound}
+use Rattle.soundness.specs.Demand3.{Paired, refusal, ran, go-paired, went-is, verdict-accepted, opened-first, passes-does}
 
 -- ---- runs
 
@@ -46,9 +46,9 @@ pub record Steady (m : Module) (s : Bytes) : Type 0 where
 
 -- the step of a steady state that runs
 pub record SteadyStep (m : Module) (form s o : Bytes) : Type 0 where
-  pub frame : view s .frames ≡ suc (topOf (view s .frames))
+  pub frame : view s .frames ≡ suc (topFrame s)
   pub moves : effectOf m form (view s) ≢ stuck
-  pub bounds : Bounded (view s) (topOf (view s .frames)) (effectOf m form (view s))
+  pub bounds : Bounded (view s) (topFrame s) (effectOf m form (view s))
   pub safe : SafeStep m (stepOf m form s o)
   pub after : Steady m (stateAfter m (stepOf m form s o))
 
@@ -168,23 +168,36 @@ running-whole f form s o b n t u e =
     eqb-true (view (r .state) .status) 0 (running-is (eqb (view (r .state) .status) 0) (eqb (view (r .state) .status) 1) (view (r .state) .result) (view (r .state) .status) (p .outcome)) in
     sym (p .steps) ∙ run-length (moduleOf f) form b s o z
 
--- "C10 budget 0 on an open state: running, 0 steps": of every accepted module, with whichever form and output of their lengths
-pub budget-zero : (f xs old form o t : Bytes) → IsAccepted (verdictOf f) → AllBytes xs → openOf f xs old ≡ opened t → length form ≤ mostForm → length o ≡ outputBytes
-    → goOf f form t o 0 ≡ went running 0 t o
-unfolding goOf wentOf outcomeOf runOf stuckSteps
-budget-zero f xs old form o t acc z e h l =
-    let m : Module = moduleOf f in
-    let s : Bytes = firstState (moduleOf f) xs in
+-- ---- the answer of a call that is not refused
+
+pub go-went : (f form s o : Bytes) (b : ℕ) → IsAccepted (verdictOf f) → AllBytes form → length form ≤ mostForm → AllBytes s → Passes (moduleOf f) s → view s .status ≡ 0 → length o ≡ outputBytes
+    → goOf f form s o b ≡ went (outcomeOf (view (runOf (moduleOf f) form b s o .state))) (length (runOf (moduleOf f) form b s o .steps)) (runOf (moduleOf f) form b s o .state) (runOf (moduleOf f) form b s o .output)
+unfolding goOf
+go-went f form s o b acc h few l p z k =
+    verdict-accepted refused (verdictOf f) _ acc
+    ∙ cond-le _ (refused 9 0) few
+    ∙ cond-yes _ (refused 20 0) (both-of (eq-eqb (length s) stateBytes (p .size)) (eq-eqb (length o) outputBytes k))
+    ∙ cond-yes _ (refused 21 0) (passes-does (moduleOf f) s p)
+    ∙ cond-eq _ (refused 22 0) z
+    ∙ went-is (runOf (moduleOf f) form b s o) (accepted-moves f form b s o acc h l p)
+
+-- an opened state is steady, and runs
+pub opened-steady : (f xs old t : Bytes) → IsAccepted (verdictOf f) → AllBytes xs → openOf f xs old ≡ opened t → Steady (moduleOf f) t × (view t .status ≡ 0)
+opened-steady f xs old t acc z e =
     let ok : ModuleOk (moduleOf f) = accepted-ok f acc in
     let whole = opened-whole (moduleOf f) ok xs z in
-    let st : view (firstState (moduleOf f) xs) .status ≡ 0 = opened-running (moduleOf f) ok xs z in
-    subst (λ (y : Bytes). goOf f form y o 0 ≡ went running 0 y o) (opened-first f acc xs old t e)
-    (verdict-accepted refused (verdictOf f) _ acc
-    ∙ cond-le _ (refused 9 0) h
-    ∙ cond-yes _ (refused 20 0) (both-of (eq-eqb (length s) stateBytes (whole .size)) (eq-eqb (length o) outputBytes l))
-    ∙ cond-yes _ (refused 21 0) (passes-does (moduleOf f) s (test-passes (moduleOf f) ok s (whole .size) (whole .spare) (opened-test (moduleOf f) ok xs z)))
-    ∙ cond-eq _ (refused 22 0) st
-    ∙ ap (λ (a : Outcome). went a 0 s o) (cond-eq running (cond (eqb (view s .status) 1) (ended (view s .result)) (stopped (view s .status))) st))
+    let s : Bytes = firstState (moduleOf f) xs in
+    subst (λ (y : Bytes). Steady (moduleOf f) y × (view y .status ≡ 0)) (opened-first f acc xs old t e)
+    (record { bytes = whole .bytes; passes = test-passes (moduleOf f) ok s (whole .size) (whole .spare) (opened-test (moduleOf f) ok xs z) }, opened-running (moduleOf f) ok xs z)
+
+-- "C10 budget 0 on an open state: running, 0 steps": of every accepted module, with whichever form and output of their lengths
+pub budget-zero : (f xs old form o t : Bytes) → IsAccepted (verdictOf f) → AllBytes xs → openOf f xs old ≡ opened t → AllBytes form → length form ≤ mostForm → length o ≡ outputBytes
+    → goOf f form t o 0 ≡ went running 0 t o
+unfolding outcomeOf runOf
+budget-zero f xs old form o t acc z e h few k =
+    let s = opened-steady f xs old t acc z e in
+    go-went f form t o 0 acc h few (s .0 .bytes) (s .0 .passes) (s .1) k
+    ∙ ap (λ (a : Outcome). went a 0 t o) (cond-eq running (cond (eqb (view t .status) 1) (ended (view t .result)) (stopped (view t .status))) (s .1))
 
 -- ---- the reader
 

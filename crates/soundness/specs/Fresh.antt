@@ -1,7 +1,7 @@
 -- "the lowest numbers not live, from 0, in order": `lowest` and `lowestNumbers` give numbers that are not in the list, all different,
 -- and no larger than the list allows (a pigeonhole). Assumes nothing.
-use mathlib.Core.Path.{_≡_, refl, sym, ap, _∙_, subst}
-use mathlib.Core.Bool.{Bool, true, false, _||_}
+use mathlib.Core.Path.{_≡_, refl, sym, ap, _∙_}
+use mathlib.Core.Bool.{true}
 use mathlib.Core.Logic.{_⊎_, inl, inr, _≢_}
 use mathlib.Core.List.{List, [], _∷_, _++_}
 use Prim.Native.Nat.{ℕ, zero, suc, _+_, _<_, _≤_}
@@ -10,9 +10,8 @@ use native.Mathlib.Decide.{ℕ-discrete}
 use native.Mathlib.Omega.{arith}
 use lib.Dec.{eqb}
 use lib.ListN.{length, getD}
-use borrow.Author.Tests.{eqb-true, eq-eqb, ne-eqb}
-use Rattle.words.specs.First.{first}
-use Rattle.words.specs.FirstLaws.{first-le, first-fails, first-all}
+use borrow.Author.Tests.{eqb-true, eq-eqb}
+use Rattle.words.specs.FirstLaws.{first-fails, first-all}
 use Rattle.words.specs.Choose.{either, left-of, right-of, true-not-false, lt-or-le}
 use Rattle.rules.specs.Step.{isIn, lowest, lowestNumbers}
 

@@ -3,8 +3,8 @@
 -- function says. Assumes nothing.
 use mathlib.Core.Path.{_≡_, refl, sym, ap, _∙_, subst}
 use mathlib.Core.Bool.{cond}
-use mathlib.Core.Logic.{_⊎_, inl, inr, _≢_}
-use mathlib.Core.List.{List, [], _∷_, _++_}
+use mathlib.Core.Logic.{_≢_}
+use mathlib.Core.List.{List, _∷_, _++_}
 use Prim.Native.Nat.{ℕ, zero, suc, _+_, _*_, _-_, _<_, _≤_}
 use native.Mathlib.Nat.{not-suc-le-zero, suc-inj}
 use native.Mathlib.Decide.{ℕ-discrete, decLt}
@@ -13,13 +13,12 @@ use lib.Dec.{eqb}
 use lib.ListN.{length, length-append}
 use Rattle.words.specs.Choose.{cond-eq, cond-ne}
 use Rattle.rules.specs.Limits.{pages, pageBytes, liveRegions}
-use Rattle.rules.specs.Types.{variable, live, Variable, region, Tree, int, ptr, arr, struct, sub, width, arg, Uses, in-int, in-ptr, in-arr, in-struct}
-use Rattle.rules.specs.Module.{Module, Function, regions, argument, Instruction, call}
-use Rattle.rules.specs.Flat.{Has, flat, size}
+use Rattle.rules.specs.Types.{variable, live, Variable, region, Tree, sub, width, arg, Uses}
+use Rattle.rules.specs.Module.{Module, Function, regions, argument, call}
+use Rattle.rules.specs.Flat.{Has, flat}
 use Rattle.rules.specs.Typing.{_⊢_∶_, Typed, t-call}
 use Rattle.rules.specs.State.{View, memoryNumber}
 use Rattle.rules.specs.Heap.{close, Local, Live, localList, liveList, look, typeOf, heapTyping, Value}
-use Rattle.rules.specs.Step.{StandsAtCall}
 use Rattle.rules.specs.StateTest.{Chained, FramesOk}
 use Rattle.soundness.specs.Fresh.{In, in-head, in-tail, in-left, in-right}
 use Rattle.layout.specs.Types.{close-agree, close-sub, Outer, outer-close}

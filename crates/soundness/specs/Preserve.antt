@@ -1,22 +1,20 @@
 -- Each change of a state keeps it good: one lemma for each change of which the effects are made. Assumes nothing.
 use mathlib.Core.Path.{_≡_, refl, sym, ap, _∙_, subst}
-use mathlib.Core.Bool.{Bool, true, false, cond}
 use mathlib.Core.Logic.{_⊎_, inl, inr, _≢_}
-use mathlib.Core.List.{List, [], _∷_, _++_}
-use Prim.Native.Nat.{ℕ, zero, suc, _+_, _*_, _-_, _^_, _<_, _≤_}
+use mathlib.Core.List.{List}
+use Prim.Native.Nat.{ℕ, suc, _+_, _*_, _<_, _≤_}
 use native.Mathlib.Nat.{not-suc-le-zero, suc-inj}
 use native.Mathlib.Decide.{ℕ-discrete, decLt}
 use native.Mathlib.Omega.{arith}
-use Rattle.words.specs.Choose.{cond-yes, cond-no, came-no, cond-split}
+use Rattle.words.specs.Choose.{cond-no, came-no, cond-split}
 use Rattle.rules.specs.Limits.{pages, pageBytes, mostFrames, liveRegions}
-use Rattle.rules.specs.Decide.{does, does-true, does-false}
-use Rattle.rules.specs.Types.{variable, live, Variable, region, Tree, int, ptr, arr, struct, sub, width, arg, Uses, Primitive}
-use Rattle.rules.specs.Module.{Module, Function, regions, argument, Instruction, call}
-use Rattle.rules.specs.Flat.{Has, flat, size}
-use Rattle.rules.specs.Typing.{Typed}
+use Rattle.rules.specs.Decide.{does-true, does-false}
+use Rattle.rules.specs.Types.{variable, live, Variable, region, Tree, width, arg, Uses}
+use Rattle.rules.specs.Module.{Module, regions, argument, call}
+use Rattle.rules.specs.Flat.{size}
 use Rattle.rules.specs.State.{View, memoryNumber}
 use Rattle.rules.specs.Heap.{close, Local, Live, decLocal, liveList, typeOf, HeapTyping, heapTyping, Value}
-use Rattle.rules.specs.Step.{StandsAtCall, closes}
+use Rattle.rules.specs.Step.{closes}
 use Rattle.rules.specs.StateTest.{Chained, FramesOk}
 use Rattle.soundness.specs.Fresh.{In}
 use Rattle.layout.specs.Types.{close-agree, close-sub, sub-prim, Outer, outer-close, outer-all}
@@ -25,7 +23,7 @@ use Rattle.layout.specs.Heap.{Slot, Kept, value-keep, value-zero, value-bound, 
 use Rattle.state.specs.Update.{upd, upd-same, upd-other, upd-cases, upd2, stored, zeroed, memoryNumber-stored, memoryNumber-stored-apart, memoryNumber-zeroed, memoryNumber-zeroed-apart}
 use Rattle.state.specs.Apply.{wrote, moved, saved, marked, granted, pushed, closed, closedOwner, closedMark}
 use Rattle.soundness.specs.Facts.{ModuleOk}
-use Rattle.soundness.specs.Good.{Good, typeOf-agree, typeOf-miss, CallRule, call-rule, map-live, fresh-map, outer-page, live-in, live-more}
+use Rattle.soundness.specs.Good.{Good, typeOf-agree, typeOf-miss, CallRule, map-live, fresh-map, outer-page, live-in, live-more}
 
 -- a function of two numbers changed at one place
 pub upd2-cases : (P : ℕ → Type 0) (f : ℕ → ℕ → ℕ) (k i x j l : ℕ) → (j ≡ k → l ≡ i → P x) → P (f j l) → P (upd2 f k i x j l)

@@ -1,34 +1,33 @@
 -- Progress: in a good state of a well-typed module the next effect is safe, so it is not stuck. One case for each kind; the typing rule
 -- is the step's one static guard, and each other guard is a fact of the state. Assumes nothing.
-use mathlib.Core.Path.{_≡_, refl, sym, ap, ap₂, _∙_, subst}
-use mathlib.Core.Bool.{Bool, true, false, cond, not, _&&_}
-use mathlib.Core.Logic.{_⊎_, inl, inr, _≢_}
-use mathlib.Core.List.{List, [], _∷_}
+use mathlib.Core.Path.{_≡_, refl, sym, ap, _∙_, subst}
+use mathlib.Core.Bool.{Bool, true, false, cond, not}
+use mathlib.Core.Logic.{inl, inr, _≢_}
+use mathlib.Core.List.{List}
 use Prim.Native.Nat.{ℕ, zero, suc, _+_, _*_, _-_, _^_, _/_, _%_, _<_, _≤_}
-use native.Mathlib.Nat.{not-suc-le-zero, mod-lt, div-add-mod, mul-le-mul-left, mul-le-mul-right}
+use native.Mathlib.Nat.{div-add-mod, mul-le-mul-left, mul-le-mul-right}
 use native.Mathlib.Decide.{ℕ-discrete, decLt}
 use native.Mathlib.Omega.{arith}
 use lib.Dec.{eqb, ltb}
 use lib.ListN.{length, getD, List·getD-eq-default}
 use borrow.Author.Tests.{ltb-true, eqb-true}
 use Rattle.words.specs.Bytes.{Bytes, AllBytes, byteAt}
-use Rattle.words.specs.First.{firstFrom}
-use Rattle.words.specs.FirstLaws.{firstFrom-least, first-le}
+use Rattle.words.specs.FirstLaws.{firstFrom-least}
 use Rattle.words.specs.Choose.{cond-lt, cond-nlt, cond-split, split-lt, split-eq, both, true-not-false}
-use Rattle.rules.specs.Limits.{pages, pageBytes, firstPage, pastPage, mostFrames, outputBytes, sizeLimit}
+use Rattle.rules.specs.Limits.{pages, pageBytes, firstPage, pastPage, mostFrames, outputBytes}
 use Rattle.rules.specs.Decide.{does, does-true, decAll}
-use Rattle.rules.specs.Types.{variable, live, Variable, region, Tree, int, ptr, arr, struct, sub, width, arg, Uses, in-ptr, Primitive}
-use Rattle.rules.specs.Module.{Module, Function, regions, argument, Instruction, constant, copy, operate, zeroExtend, signExtend, address, check, field, index, load, store, new, free, input, output, jump, branch, call, return}
-use Rattle.rules.specs.Flat.{Has, flat, size, distance, Same}
+use Rattle.rules.specs.Types.{variable, live, Variable, region, Tree, int, ptr, arr, sub, width, arg, Uses, in-ptr, Primitive}
+use Rattle.rules.specs.Module.{Module, Function, regions, argument, Instruction, operate, address, check, new, call}
+use Rattle.rules.specs.Flat.{flat, size, distance, Same}
 use Rattle.rules.specs.Typing.{_⊢_∶_, Typed, t-constant, t-copy, t-operate, t-quotient, t-compare, t-zeroExtend, t-signExtend, t-address, t-checkInteger, t-checkPointer, t-field, t-index, t-load, t-store, t-new, t-free, t-input, t-output, t-jump, t-branch, t-call, t-return}
 use Rattle.rules.specs.Decision.{decTyped}
 use Rattle.rules.specs.State.{View}
-use Rattle.rules.specs.Heap.{close, Live, decLive, liveList, typeOf, HeapTyping, heapTyping, placesInPage, Stands, decStands, Value}
+use Rattle.rules.specs.Heap.{close, decLive, liveList, typeOf, HeapTyping, heapTyping, placesInPage, Stands, decStands, Value}
 use Rattle.rules.specs.Arithmetic.{Computed, value, halt, operationOf, operated, cut, signExtended}
-use Rattle.rules.specs.Step.{Effect, set, fetch, save, takePlace, grantPage, freePlace, goTo, emit, push, pop, finish, stop, stuck, need, onInt, onPtr, onArr, onCall, StandsAtCall, decStandsAtCall, lowestNumbers, Home, decHome, unusedPlace, hasRoom, roomPage, unownedPage, allocate, notZero, computed, Held, decHeld, calleeMap, calleeRegisters, returned, exec, effectAt}
-use Rattle.rules.specs.StateTest.{Listed, Chained, FramesOk, site-unique}
+use Rattle.rules.specs.Step.{Effect, set, takePlace, grantPage, freePlace, goTo, emit, push, pop, stop, need, onInt, onPtr, onArr, onCall, StandsAtCall, decStandsAtCall, lowestNumbers, Home, decHome, unusedPlace, hasRoom, roomPage, unownedPage, allocate, notZero, computed, Held, decHeld, calleeMap, calleeRegisters, returned, exec, effectAt}
+use Rattle.rules.specs.StateTest.{Listed, Chained, site-unique}
 use Rattle.rules.specs.Claim.{Touches}
-use Rattle.layout.specs.TypesOk.{GoodTree, good-ptr, good-arr}
+use Rattle.layout.specs.TypesOk.{GoodTree, good-ptr}
 use Rattle.state.specs.Update.{upd-same}
 use Rattle.state.specs.Apply.{granted}
 use Rattle.layout.specs.Close.{close-width, close-prim, size-close}
@@ -36,9 +35,9 @@ use Rattle.layout.specs.Heap.{Slot, stands-slot, value-bound}
 use Rattle.layout.specs.Pointers.{stands-field, stands-element, stands-object, touched-object, touched-bytes}
 use Rattle.typing.specs.Facts.{FunctionFacts, GoesOn}
 use Rattle.soundness.specs.Facts.{ModuleOk}
-use Rattle.soundness.specs.Fresh.{In, numbers-length, numbers-out, numbers-differ, numbers-small, number-in}
+use Rattle.soundness.specs.Fresh.{numbers-length, numbers-out, numbers-differ, numbers-small, number-in}
 use Rattle.soundness.specs.Operations.{Fits, cut-lt, operate-fits, quotient-fits, compare-fits}
-use Rattle.soundness.specs.Good.{Good, CallRule, call-rule, chain-rule, through-types, map-live, map-typed, live-length}
+use Rattle.soundness.specs.Good.{Good, CallRule, chain-rule, through-types, map-live, map-typed, live-length}
 use Rattle.soundness.specs.Preserve.{SafePush}
 use Rattle.soundness.specs.Safe.{Next, SafeSet, SafeFree, SafePop, Safe}
 

@@ -1,7 +1,7 @@
 -- What makes an effect safe: it is not stuck, what it writes is a value of its type, and what it touches is the value that its
 -- pointer's type names, whole inside one object of a live region in scope. Assumes nothing.
 use mathlib.Core.Path.{_≡_}
-use Prim.Native.Nat.{ℕ, zero, suc, _+_, _*_, _^_, _<_, _≤_}
+use Prim.Native.Nat.{ℕ, suc, _*_, _^_, _<_, _≤_}
 use Rattle.rules.specs.Limits.{pages, pageBytes, outputBytes}
 use Rattle.rules.specs.Types.{live, Tree, width}
 use Rattle.rules.specs.Module.{Module}

@@ -1,9 +1,9 @@
 -- Demand 3 over runs: each step is safe, the state test holds after it, and the pages add up. Assumes nothing.
-use mathlib.Core.Path.{_≡_, refl, sym, ap, _∙_, subst}
+use mathlib.Core.Path.{_≡_, refl, sym, subst}
 use mathlib.Core.Bool.{Bool, true, false}
 use mathlib.Core.Logic.{_≢_}
 use mathlib.Core.List.{List, [], _∷_, _++_}
-use Prim.Native.Nat.{ℕ, zero, suc, _+_, _<_, _≤_}
+use Prim.Native.Nat.{ℕ, zero, suc, _+_, _<_}
 use native.Mathlib.Nat.{not-suc-le-zero}
 use native.Mathlib.Omega.{arith}
 use lib.Dec.{eqb}
@@ -15,8 +15,7 @@ use Rattle.rules.specs.State.{View, view}
 use Rattle.rules.specs.Step.{Effect, set, fetch, save, takePlace, grantPage, freePlace, goTo, emit, push, pop, finish, stop, stuck, effectAt, effectOf, grantedBy, handedBackBy}
 use Rattle.rules.specs.Run.{Step, topOf, stepOf, stateAfter, outputAfter, Trace, noSteps, runOf, isStuck, stuckSteps}
 use Rattle.rules.specs.StateTest.{StatusOk, running, stopped, ended, SpareOk}
-use Rattle.rules.specs.Claim.{SafeStep, AllSafe, ownedBelow, owned, granted, handedBack}
-use Rattle.state.specs.Apply.{apply}
+use Rattle.rules.specs.Claim.{SafeStep, AllSafe, owned, granted, handedBack}
 use Rattle.state.specs.Effects.{Bounded, view-apply}
 use Rattle.state.specs.Whole.{Whole, whole-apply}
 use Rattle.state.specs.Independence.{decides-law, reads-law, keeps-law}
@@ -26,6 +25,10 @@ use Rattle.soundness.specs.Safe.{Safe}
 use Rattle.soundness.specs.Progress.{progress}
 use Rattle.soundness.specs.Step.{Test, pages-step, preserve, ended-none}
 use Rattle.soundness.specs.Bounds.{bounded}
+
+-- the top frame of a state
+abbrev pub topFrame : Bytes → ℕ
+topFrame s = topOf (view s .frames)
 
 -- no safe effect is stuck
 not-stuck : (m : Module) (v : View) (k : ℕ) (e : Effect) → Safe m v k e → e ≢ stuck
@@ -75,29 +78,28 @@ pub record Sound (m : Module) (s : Bytes) (r : Trace) : Type 0 where
 module _ (m : Module) (ok : ModuleOk m) where
   -- what is known of a running state that passes the test: its top frame, the next effect, and that it is safe and in bounds
   pub record Ready (form s : Bytes) : Type 0 where
-    pub frame : view s .frames ≡ suc (topOf (view s .frames))
+    pub frame : view s .frames ≡ suc (topFrame s)
     pub result : view s .result ≡ 0
-    pub good : Good m (view s) (suc (topOf (view s .frames)))
-    pub spare : SpareOk m (view s) (suc (topOf (view s .frames)))
-    pub safe : Safe m (view s) (topOf (view s .frames)) (effectOf m form (view s))
-    pub bounds : Bounded (view s) (topOf (view s .frames)) (effectOf m form (view s))
+    pub good : Good m (view s) (suc (topFrame s))
+    pub spare : SpareOk m (view s) (suc (topFrame s))
+    pub safe : Safe m (view s) (topFrame s) (effectOf m form (view s))
+    pub bounds : Bounded (view s) (topFrame s) (effectOf m form (view s))
 
   pub ready : (form s : Bytes) → AllBytes form → Test m (view s) → view s .status ≡ 0 → Ready form s
   unfolding effectOf
   ready form s b t z =
       let going = status-going (view s) (t .status) z in
-      let k : ℕ = topOf (view s .frames) in
-      let fr : view s .frames ≡ suc (topOf (view s .frames)) = top-suc (view s .frames) (going .0) in
-      let g : Good m (view s) (suc (topOf (view s .frames))) = subst (λ (n : ℕ). Good m (view s) n) fr (t .good) in
-      let f : Safe m (view s) (topOf (view s .frames)) (effectOf m form (view s)) =
-      subst (λ (n : ℕ). Safe m (view s) (topOf (view s .frames)) (effectAt m form (view s) n)) (sym fr) (progress m ok form b (view s) (topOf (view s .frames)) g) in
+      let fr : view s .frames ≡ suc (topFrame s) = top-suc (view s .frames) (going .0) in
+      let g : Good m (view s) (suc (topFrame s)) = subst (λ (n : ℕ). Good m (view s) n) fr (t .good) in
+      let f : Safe m (view s) (topFrame s) (effectOf m form (view s)) =
+      subst (λ (n : ℕ). Safe m (view s) (topFrame s) (effectAt m form (view s) n)) (sym fr) (progress m ok form b (view s) (topFrame s) g) in
       record {
         frame = fr;
         result = going .1;
         good = g;
         spare = subst (λ (n : ℕ). SpareOk m (view s) n) fr (t .spare);
         safe = f;
-        bounds = bounded m ok (view s) (topOf (view s .frames)) g (t .output) (effectOf m form (view s)) f;
+        bounds = bounded m ok (view s) (topFrame s) g (t .output) (effectOf m form (view s)) f;
       }
 
   pub record Stepped (form s o : Bytes) : Type 0 where
@@ -105,31 +107,29 @@ module _ (m : Module) (ok : ModuleOk m) where
     pub moving : isStuck (effectOf m form (view s)) ≡ 0
     pub test : Test m (view (stateAfter m (stepOf m form s o)))
     pub whole : Whole (stateAfter m (stepOf m form s o))
-    pub pages : owned (stateAfter m (stepOf m form s o)) + handedBackBy m (view s) (topOf (view s .frames)) (effectOf m form (view s)) ≡ owned s + grantedBy (effectOf m form (view s))
+    pub pages : owned (stateAfter m (stepOf m form s o)) + handedBackBy m (view s) (topFrame s) (effectOf m form (view s)) ≡ owned s + grantedBy (effectOf m form (view s))
 
   pub stepped : (form s o : Bytes) → AllBytes form → Test m (view s) → Whole s → view s .status ≡ 0 → Stepped form s o
   stepped form s o b t w z =
-      let k : ℕ = topOf (view s .frames) in
-      let e : Effect = effectOf m form (view s) in
       let r = ready form s b t z in
-      let f : Safe m (view s) (topOf (view s .frames)) (effectOf m form (view s)) = r .safe in
-      let after = view-apply m s (w .size) (w .bytes) (topOf (view s .frames)) (effectOf m form (view s)) (r .bounds) in
+      let f : Safe m (view s) (topFrame s) (effectOf m form (view s)) = r .safe in
+      let after = view-apply m s (w .size) (w .bytes) (topFrame s) (effectOf m form (view s)) (r .bounds) in
       record {
         safe = record {
           frame = r .frame;
           is = refl;
-          moves = not-stuck m (view s) (topOf (view s .frames)) (effectOf m form (view s)) f;
-          stops = λ n d. subst (λ (u : Effect). Safe m (view s) (topOf (view s .frames)) u) d f;
-          loads = λ b a y w d. subst (λ (u : Effect). Safe m (view s) (topOf (view s .frames)) u) d f .touches;
-          stores = λ b y w u d. subst (λ (u : Effect). Safe m (view s) (topOf (view s .frames)) u) d f .touches;
+          moves = not-stuck m (view s) (topFrame s) (effectOf m form (view s)) f;
+          stops = λ n d. subst (λ (u : Effect). Safe m (view s) (topFrame s) u) d f;
+          loads = λ b a y w d. subst (λ (u : Effect). Safe m (view s) (topFrame s) u) d f .touches;
+          stores = λ b y w u d. subst (λ (u : Effect). Safe m (view s) (topFrame s) u) d f .touches;
           decides = λ y h. decides-law m form y s h;
-          reads = λ y h q. reads-law m (topOf (view s .frames)) y s h (effectOf m form (view s)) q;
-          keeps = keeps-law m s (w .size) (w .bytes) (topOf (view s .frames)) (effectOf m form (view s)) (r .bounds);
+          reads = λ y h q. reads-law m (topFrame s) y s h (effectOf m form (view s)) q;
+          keeps = keeps-law m s (w .size) (w .bytes) (topFrame s) (effectOf m form (view s)) (r .bounds);
         };
-        moving = stuck-none m (view s) (topOf (view s .frames)) (effectOf m form (view s)) f;
-        test = rw after (preserve m ok (view s) (topOf (view s .frames)) (effectOf m form (view s)) (r .frame) z (r .result) (t .output) (r .good) (r .spare) f);
-        whole = whole-apply m s (topOf (view s .frames)) (effectOf m form (view s)) (r .bounds) w;
-        pages = rw after (pages-step m (view s) (topOf (view s .frames)) (effectOf m form (view s)) f);
+        moving = stuck-none m (view s) (topFrame s) (effectOf m form (view s)) f;
+        test = rw after (preserve m ok (view s) (topFrame s) (effectOf m form (view s)) (r .frame) z (r .result) (t .output) (r .good) (r .spare) f);
+        whole = whole-apply m s (topFrame s) (effectOf m form (view s)) (r .bounds) w;
+        pages = rw after (pages-step m (view s) (topFrame s) (effectOf m form (view s)) f);
       }
 
   pub stay : (s o : Bytes) → Test m (view s) → Whole s → Sound m s (noSteps s o)

@@ -1,21 +1,19 @@
 -- The spare part of a state stays zero: frames not in use, registers and map entries that a function does not have, marks beyond the
 -- last place of a page. Assumes nothing.
-use mathlib.Core.Path.{_≡_, refl, sym, ap, _∙_, subst}
-use mathlib.Core.Bool.{Bool, true, false, cond}
-use mathlib.Core.Logic.{_⊎_, inl, inr, _≢_}
-use Prim.Native.Nat.{ℕ, zero, suc, _+_, _*_, _<_, _≤_}
-use native.Mathlib.Nat.{not-suc-le-zero, suc-inj}
+use mathlib.Core.Path.{_≡_, refl, sym, ap, _∙_}
+use Prim.Native.Nat.{ℕ, zero, suc, _*_, _<_, _≤_}
+use native.Mathlib.Nat.{suc-inj}
 use native.Mathlib.Decide.{ℕ-discrete}
 use native.Mathlib.Omega.{arith}
 use Rattle.words.specs.Choose.{cond-split}
-use Rattle.rules.specs.Limits.{pages, pageBytes, mostFrames, mostRegisters, mostRegions}
-use Rattle.rules.specs.Module.{Module, Function, regions}
+use Rattle.rules.specs.Limits.{pages, pageBytes, mostRegisters, mostRegions}
+use Rattle.rules.specs.Module.{Module, regions}
 use Rattle.rules.specs.Flat.{size}
 use Rattle.rules.specs.State.{View}
 use Rattle.rules.specs.Heap.{Live, typeOf}
 use Rattle.rules.specs.Step.{closes}
 use Rattle.rules.specs.StateTest.{MarksEnd, SpareOk}
-use Rattle.state.specs.Update.{upd, upd-same, upd-other, upd-cases, upd2}
+use Rattle.state.specs.Update.{upd, upd-same, upd-other, upd-cases}
 use Rattle.state.specs.Apply.{wrote, moved, saved, marked, granted, counted, pushed, closed, closedOwner, became}
 use Rattle.soundness.specs.Facts.{ModuleOk}
 use Rattle.soundness.specs.Good.{Good}

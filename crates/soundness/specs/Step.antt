@@ -2,19 +2,19 @@
 -- Assumes nothing.
 use mathlib.Core.Path.{_≡_, refl, sym, _∙_, subst}
 use mathlib.Core.Bool.{cond}
-use Prim.Native.Nat.{ℕ, zero, suc, _+_, _*_, _^_, _<_, _≤_}
+use Prim.Native.Nat.{ℕ, zero, suc, _+_, _*_, _<_, _≤_}
 use native.Mathlib.Nat.{not-suc-le-zero, suc-inj}
 use native.Mathlib.Decide.{decLt}
 use native.Mathlib.Omega.{arith}
 use lib.Dec.{eqb}
 use Rattle.words.specs.Choose.{cond-eq}
 use Rattle.rules.specs.Limits.{pages, pageBytes, outputBytes}
-use Rattle.rules.specs.Types.{live, Tree, width}
+use Rattle.rules.specs.Types.{width}
 use Rattle.rules.specs.Module.{Module, regions}
 use Rattle.rules.specs.State.{View, memoryNumber}
 use Rattle.rules.specs.Heap.{close, heapTyping}
 use Rattle.rules.specs.Step.{Effect, set, fetch, save, takePlace, grantPage, freePlace, goTo, emit, push, pop, finish, stop, stuck, grantedBy, handedBackBy}
-use Rattle.rules.specs.StateTest.{Listed, StatusOk, running, stopped, ended, SpareOk}
+use Rattle.rules.specs.StateTest.{StatusOk, running, stopped, ended, SpareOk}
 use Rattle.rules.specs.Claim.{ownedBelow}
 use Rattle.layout.specs.Types.{outer-close}
 use Rattle.layout.specs.Heap.{Kept, value-keep}
