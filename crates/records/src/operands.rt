@@ -1,6 +1,8 @@
 // The operands of an instruction, by one table, and the entries of a record. Each test is the definition of the same name in rules'
 // specs/Operands.antt and specs/Records.antt.
 ghost use mathlib.Core.Path.{_≡_};
+ghost use Prim.Native.Nat.{_-_};
+ghost use Rattle.rules.specs.File.{firstArithmetic};
 ghost use Rattle.rules.specs.Operands.{classesOf, operandFits};
 ghost use Rattle.rules.specs.Records.{slot, four, seven, loose, fourLoose, sevenLoose};
 ghost use Rattle.records.specs.Classes.{Digits};
@@ -51,16 +53,29 @@ const CLASSES: [u16; KINDS] = [
     0o0001,
 ];
 
-// The classes of a kind, an octal digit each. (A kind below 16 has those of 16, as in the definition; above 34 all are unused.)
+fn wide(x: u16) -> usize
+    ensures { λ n. ⌜ n ≡ x ⌝ }
+{
+    x as usize
+}
+
+// Where a kind stands in the table. (One below 16 has the row of 16, as in the definition.)
+fn row_of(kind: u8) -> usize
+    ensures { λ i. ⌜ i ≡ kind - firstArithmetic ⌝ }
+{
+    if kind <= FIRST_INSTRUCTION {
+        0
+    } else {
+        (kind - FIRST_INSTRUCTION) as usize
+    }
+}
+
+// The classes of a kind's operands, an octal digit each. (Above 34 all are unused.)
 pub fn classes(kind: u8) -> usize
     ensures { λ n. ⌜ Digits n (classesOf kind) ⌝ }
 {
-    if kind <= FIRST_INSTRUCTION {
-        CLASSES[0] as usize
-    } else {
-        let i = kind as usize - FIRST_INSTRUCTION as usize;
-        if i < KINDS { CLASSES[i] as usize } else { 0 }
-    }
+    let i = row_of(kind);
+    if i < KINDS { wide(CLASSES[i]) } else { 0 }
 }
 
 pub fn operand_fits(
