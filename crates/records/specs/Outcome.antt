@@ -10,11 +10,12 @@ use lib.Dec.{ltb, lit<, lit≤}
 use borrow.Author.Tests.{lt-ltb, le-ltb, ltb-false}
 use Rattle.words.specs.Bytes.{Bytes}
 use Rattle.words.specs.First.{first}
-use Rattle.words.specs.FirstLaws.{first-is, first-all}
+use Rattle.words.specs.FirstLaws.{first-is, first-all, first-none}
 use Rattle.rules.specs.Stages.{Stage, failure, refusal, verdict}
 use Rattle.rules.specs.File.{blocks, records, lengthRight, blockTest, lengthStage, blockStage}
 use Rattle.rules.specs.Records.{recordTest, recordStage}
 use Rattle.rules.specs.Verdict.{moduleRules, recordRules, verdictOf}
+use Rattle.typing.specs.Stages.{Passes, AllPass}
 use Rattle.rules.specs.declared.Verdict.{Verdict}
 use Rattle.rules.specs.declared.Verdict.the-variants as verdicts
 use Rattle.records.specs.declared.framing.Outcome.{Outcome}
@@ -77,6 +78,24 @@ one-passes t e = sym (first-is 1 t 1 (omega arith) (λ j h. let z : j ≡ 0 = om
 
 one-fails : (t : ℕ → Bool) → t 0 ≡ false → 0 ≡ first 1 t
 one-fails t e = sym (first-is 1 t 0 (omega arith) (λ j h. absurd (omega arith)) (λ h. e))
+
+-- stages are passed exactly where each of their tests passes
+pub passed-all : (ss : List Stage) → outcome ss ≡ Passed → AllPass ss
+unfolding outcome
+passed-all [] e = tt
+passed-all (s ∷ ss) e = go (ltb (failure s) (s .count)) refl e (passed-all ss)
+  where
+    go : (b : Bool) → ltb (failure s) (s .count) ≡ b → cond b (Refused (s .number (failure s)) (s .place (failure s))) (outcome ss) ≡ Passed
+        → (outcome ss ≡ Passed → AllPass ss) → Passes s × AllPass ss
+    go true q e h = let z : _≡_ {A = ℕ} 0 1 = cc in absurd (omega arith)
+    go false q e h = (first-all (s .count) (s .test) (ltb-false (failure s) (s .count) q), h e)
+
+pub all-passed : (ss : List Stage) → AllPass ss → outcome ss ≡ Passed
+unfolding outcome
+all-passed [] p = refl
+all-passed (s ∷ ss) p =
+    let e : failure s ≡ s .count = first-none (s .count) (s .test) (p .0) in
+    passes s ss (sym e) (omega arith) ∙ all-passed ss (p .1)
 
 -- ---- the cases of the code
 

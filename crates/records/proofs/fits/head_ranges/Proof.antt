@@ -18,7 +18,7 @@ cast-result c = search needs
 
 returns : tie.Need-returns
 unfolding headRanges
-returns c = rw (c .before .before .before .before .instructions-of .ensures, c .before .before .before .before .before .parameters-of .ensures, c .before .before .before .before .before .before .regions-of .ensures)
+returns c = rw (c .before .before .before .before .instructions-of .ensures .0, c .before .before .before .before .before .parameters-of .ensures, c .before .before .before .before .before .before .regions-of .ensures)
 
 pub head-ranges-spec : {M : Type 1} → statement M
 head-ranges-spec =
