@@ -16,7 +16,7 @@ use Rattle.rules.specs.Decide.{decBoth, decEither, decImp, decAll, decTh
 use Rattle.rules.specs.Decision.{asInt, asPtr, asArr, decReg, withInt, withPtr, anInt, aPtr, decConstant, decCopy, decOperate, decZero, decSigned, decAddress, decCheck, decField, decIndex, decThrough, decLoad, decStore, decWhole, decNew, decFree, decInput, decOutput, decJump, decBranch, decCall, decReturn, decTyped}
 use Rattle.rules.specs.Decode.{regionBytes, treeOf, treesOf, fieldsOf, places, codePlaces, callOf, arithmeticOf, memoryOf, controlOf, byGroup, instructionOf, codeOf, functionOf, moduleOf, startOf, instructionAt}
 use Rattle.rules.specs.File.{checkSum, blockTest, records, recordStart, recordOf, groupOf}
-use Rattle.rules.specs.Flat.{decPlaced, decPrims, beside, copiesOf, copies, subLayout, flatWith, fieldsWith, layouts, flat, structFlat, decRun, decSame}
+use Rattle.rules.specs.Flat.{decPlaced, decPrims, beside, copiesOf, copies, subLayout, flatWith, fieldsFrom, fieldsWith, layouts, flat, structFlat, decRun, decSame}
 use Rattle.rules.specs.Operands.{operandTable, classesOf, operandFits}
 use Rattle.rules.specs.Quick.{along, quickRecords, quickOf}
 use Rattle.rules.specs.Records.{four, seven, fourLoose, sevenLoose, termFits, nameFits, headRanges, functionFits, listFits, regionBytesFit, instructionFits, argumentsFit, fitsIn, fits, recordTestWith}
@@ -43,7 +43,7 @@ name0 r = struct 0 (region r ∷ [])
 
 -- "C1 {i8; i32} has size 5, 51 to a page"
 pub C1 : size (named (int 1 ∷ int 4 ∷ [])) (name0 0) ≡ 5
-unfolding flat layouts fieldsWith flatWith beside subLayout named name0
+unfolding flat layouts fieldsFrom fieldsWith flatWith beside subLayout named name0
 C1 = refl
 
 pub C1-page : pageBytes / 5 ≡ 51
@@ -51,25 +51,25 @@ C1-page = refl
 
 -- "C2 name 0 = {i32; i32 in 0} for region 2 is i32, i32 in 2"
 pub C2 : flat (named (int 4 ∷ ptr (int 4) (region 0) ∷ [])) (name0 2) .prims ≡ at 0 (int 4) ∷ at 4 (ptr (int 4) (region 2)) ∷ []
-unfolding flat layouts fieldsWith flatWith beside subLayout sub named name0
+unfolding flat layouts fieldsFrom fieldsWith flatWith beside subLayout sub named name0
 C2 = refl
 
 -- "C3 i8 times 256 is accepted; with an i8 more, 5"
 pub C3 : size {k = variable} (named []) (arr 256 (int 1)) ≡ sizeLimit
-unfolding flat layouts fieldsWith flatWith copies copiesOf named
+unfolding flat layouts fieldsFrom fieldsWith flatWith copies copiesOf named
 C3 = refl
 
 pub C3-more : size (named (arr 256 (int 1) ∷ int 1 ∷ [])) (name0 0) ≡ suc sizeLimit
-unfolding flat layouts fieldsWith flatWith beside copies copiesOf subLayout named name0
+unfolding flat layouts fieldsFrom fieldsWith flatWith beside copies copiesOf subLayout named name0
 C3-more = refl
 
 -- a name that mentions itself outside pointers has no size; under a pointer it may
 pub own-outside : size (named (arr 2 (name0 0) ∷ [])) (name0 0) ≡ suc sizeLimit
-unfolding flat layouts fieldsWith flatWith beside copies copiesOf subLayout named name0
+unfolding flat layouts fieldsFrom fieldsWith flatWith beside copies copiesOf subLayout named name0
 own-outside = refl
 
 pub own-under : size (named (ptr (name0 0) (region 0) ∷ [])) (name0 0) ≡ 4
-unfolding flat layouts fieldsWith flatWith beside subLayout named name0
+unfolding flat layouts fieldsFrom fieldsWith flatWith beside subLayout named name0
 own-under = refl
 
 -- ---- files
@@ -174,5 +174,5 @@ table =
     []
 
 pub agrees : Agree table
-unfolding number little listFrom firstFrom first sumBelow decBoth decEither decImp decAll decThe mapDec decList decEach asInt asPtr asArr decReg withInt withPtr anInt aPtr decConstant decCopy decOperate decZero decSigned decAddress decCheck decField decIndex decThrough decLoad decStore decWhole decNew decFree decInput decOutput decJump decBranch decCall decReturn decTyped regionBytes treeOf treesOf fieldsOf places codePlaces callOf arithmeticOf memoryOf controlOf byGroup instructionOf codeOf functionOf moduleOf startOf instructionAt checkSum blockTest records recordStart recordOf groupOf decPlaced decPrims beside copiesOf copies subLayout flatWith fieldsWith layouts flat structFlat decRun decSame operandTable classesOf operandFits along quickRecords quickOf four seven fourLoose sevenLoose termFits nameFits headRanges functionFits listFits regionBytesFit instructionFits argumentsFit fitsIn fits recordTestWith verdict decRegion sub decTree decUses decPrimitive termTest structTest functionTest instructionTest instructionStage lastTest moduleStages instructions moduleRules toCode toRegisters opened done toFunction toName step next nextScan scan whole decCounts decTerm decStruct scopeOf decFunction decEntry decLast ℕ-discrete decLt decLe recordsBytes fileOf file workedRecords worked
+unfolding number little listFrom firstFrom first sumBelow decBoth decEither decImp decAll decThe mapDec decList decEach asInt asPtr asArr decReg withInt withPtr anInt aPtr decConstant decCopy decOperate decZero decSigned decAddress decCheck decField decIndex decThrough decLoad decStore decWhole decNew decFree decInput decOutput decJump decBranch decCall decReturn decTyped regionBytes treeOf treesOf fieldsOf places codePlaces callOf arithmeticOf memoryOf controlOf byGroup instructionOf codeOf functionOf moduleOf startOf instructionAt checkSum blockTest records recordStart recordOf groupOf decPlaced decPrims beside copiesOf copies subLayout flatWith fieldsFrom fieldsWith layouts flat structFlat decRun decSame operandTable classesOf operandFits along quickRecords quickOf four seven fourLoose sevenLoose termFits nameFits headRanges functionFits listFits regionBytesFit instructionFits argumentsFit fitsIn fits recordTestWith verdict decRegion sub decTree decUses decPrimitive termTest structTest functionTest instructionTest instructionStage lastTest moduleStages instructions moduleRules toCode toRegisters opened done toFunction toName step next nextScan scan whole decCounts decTerm decStruct scopeOf decFunction decEntry decLast ℕ-discrete decLt decLe recordsBytes fileOf file workedRecords worked
 agrees = agree table refl

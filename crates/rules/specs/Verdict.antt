@@ -80,7 +80,7 @@ verdictOf f = verdict (lengthStage f ∷ blockStage f ∷ []) (recordRules f)
 -- rule n is broken at place p: "A refusal returns number and place (block for 2 and 3, record for 4 to 8, else 0)"
 pub data Broken (f : Bytes) : ℕ → ℕ → Type 0 where
   -- "1 file length. 2 place or count of a block, 3 its check"
-  length : lengthRight f ≡ false → Broken f 1 0
+  fileLength : lengthRight f ≡ false → Broken f 1 0
   place : (i : ℕ) → i < blocks f → placeRight f i ≡ false → Broken f 2 i
   check : (i : ℕ) → i < blocks f → checkRight f i ≡ false → Broken f 3 i
   -- "4 record unknown, out of order, over a limit or naming nothing"; "A file that ends too soon has its record count as place"

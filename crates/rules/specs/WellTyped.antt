@@ -114,7 +114,7 @@ pub record Ranges (f : Function) : Type 0 where
   pub params : f .params ≤ mostEntries
   pub fewParams : f .params ≤ f .registers
   pub some : 1 ≤ f .length
-  pub length : f .length ≤ mostInstructions
+  pub instructions : f .length ≤ mostInstructions
 
 pub record Tables (m : Module) : Type 0 where
   pub terms : m .terms ≤ mostTerms
