@@ -77,12 +77,20 @@ fn shift_left(w: u64, x: u32, y: u32) -> Number
     }
 }
 
+// Zeros come in from above.
+fn logical_right(x: u32, y: u32) -> u32
+    requires { ⌜ y < 32 ⌝ }
+    ensures { λ r. ⌜ r ≡ x / 2 ^ y ⌝ }
+{
+    x >> y
+}
+
 fn shift_right(w: u64, x: u32, y: u32) -> Number
     requires { ⌜ IsWidth w ⌝ }
     ensures { λ r. ⌜ computedOf r ≡ rightBy (ltb y (8 * w)) x y ⌝ }
 {
     if wide(y) < bits_of(w) {
-        Number::Is(x >> y)
+        Number::Is(logical_right(x, y))
     } else {
         Number::Stop(37)
     }
@@ -116,6 +124,14 @@ fn negated(q: u64) -> Number
     Number::Is(((4294967296 - q) % 4294967296) as u32)
 }
 
+// What is divided by 2q, so that the quotient of p and q comes out to the nearest, halves upwards.
+fn dividend(p: u64, q: u64) -> u64
+    requires { ⌜ (p ≤ 2147483648) × (q ≤ 2147483648) × (0 < q) ⌝ }
+    ensures { λ r. ⌜ r ≡ 2 * p + q ⌝ }
+{
+    2 * p + q
+}
+
 // The quotient of two i32 to the nearest, halves away from zero.
 fn nearest(x: u32, y: u32) -> Number
     ensures { λ r. ⌜ computedOf r ≡ nearestBy (ltb 0 y) x y ⌝ }
@@ -125,7 +141,7 @@ fn nearest(x: u32, y: u32) -> Number
     }
     let p = magnitude_of(x);
     let q = magnitude_of(y);
-    let n = (2 * p + q) / (2 * q);
+    let n = dividend(p, q) / (2 * q);
     if x < 2147483648 {
         if y < 2147483648 {
             positive(n)
@@ -144,13 +160,21 @@ fn nearest(x: u32, y: u32) -> Number
 fn quotient(x: u32, y: u32) -> Number
     ensures { λ r. ⌜ computedOf r ≡ valueIf (ltb 0 y) 36 (x / y) ⌝ }
 {
-    if 0 < y { Number::Is(x / y) } else { Number::Stop(36) }
+    if 0 < y {
+        Number::Is(x / y)
+    } else {
+        Number::Stop(36)
+    }
 }
 
 fn remainder(x: u32, y: u32) -> Number
     ensures { λ r. ⌜ computedOf r ≡ valueIf (ltb 0 y) 36 (x % y) ⌝ }
 {
-    if 0 < y { Number::Is(x % y) } else { Number::Stop(36) }
+    if 0 < y {
+        Number::Is(x % y)
+    } else {
+        Number::Stop(36)
+    }
 }
 
 fn subtract(w: u64, x: u32, y: u32) -> u32

@@ -1,71 +1,59 @@
+-- `arithmetic::nearest` meets its contract: the divisor has a magnitude above zero, and the quotient is at most 256 to the 4.
+use Prim.Native.Nat.{_-_, _<_, _≤_}
+use native.Mathlib.Omega.{arith}
+use borrow.Author.Tests.{lt-ltb, le-ltb}
+use Rattle.rules.specs.Arithmetic.{nearestOf, signedBy, nearestBy}
+use Rattle.arithmetic.specs.Laws.{nearest-le, magnitude-pos}
 use borrow.Author.Needs.{needs}
 use Rattle.arithmetic.proofs.nearest.Statement.{statement}
 use Rattle.arithmetic.proofs.nearest.Tie as tie
-use Rattle.arithmetic.proofs.nearest.Reads as reads
-use Rattle.arithmetic.proofs.nearest.Lts as lts
-use Rattle.arithmetic.proofs.magnitude_of.Reads as magnitude-of-reads
-use Rattle.arithmetic.proofs.negated.Reads as negated-reads
-use Rattle.arithmetic.proofs.positive.Reads as positive-reads
 
--- src/lib.rt:124:9
 returns : tie.Need-returns
-returns c = ?
+unfolding nearestBy
+returns c = let h : c .before .args .y ≤ 0 = omega arith in simp (le-ltb 0 _ h)
 
--- src/lib.rt:126:9
 magnitude-of-requires : tie.Need-magnitude-of-requires
 magnitude-of-requires c κs = search needs
 
--- src/lib.rt:127:9
 magnitude-of-requires-2 : tie.Need-magnitude-of-requires-2
 magnitude-of-requires-2 c κs = search needs
 
--- src/lib.rt:128:14
+dividend-requires : tie.Need-dividend-requires
+dividend-requires c κs = (c .before .magnitude-of .ensures .1, c .magnitude-of2 .ensures .1, rw (c .magnitude-of2 .ensures .0) (magnitude-pos _ (c .before .before .if1 .left) (search needs)))
+
 mul-n : tie.Need-mul-n
 mul-n c = search needs
 
--- src/lib.rt:128:14
-add-n : tie.Need-add-n
-add-n c = search needs
-
--- src/lib.rt:128:28
-mul-n-2 : tie.Need-mul-n-2
-mul-n-2 c = search needs
-
--- src/lib.rt:128:13
 div-n : tie.Need-div-n
-div-n c = ?
+div-n c = let h : 0 < c .before .magnitude-of2 .result = rw (c .before .magnitude-of2 .ensures .0) (magnitude-pos _ (c .before .before .before .if1 .left) (search needs)) in omega arith
 
--- src/lib.rt:131:13
 positive-requires : tie.Need-positive-requires
 positive-requires c κs = search needs
 
--- src/lib.rt:133:13
 negated-requires : tie.Need-negated-requires
-negated-requires c κs = ?
+negated-requires c κs = rw (c .before .before .dividend .ensures) (nearest-le (c .before .before .before .before .magnitude-of .result) (c .before .before .before .magnitude-of2 .result) (omega arith) (rw (c .before .before .before .magnitude-of2 .ensures .0) (magnitude-pos _ (c .before .before .before .before .before .if1 .left) (search needs))))
 
--- src/lib.rt:137:13
 negated-requires-2 : tie.Need-negated-requires-2
-negated-requires-2 c κs = ?
+negated-requires-2 c κs = rw (c .before .before .dividend .ensures) (nearest-le (c .before .before .before .before .magnitude-of .result) (c .before .before .before .magnitude-of2 .result) (omega arith) (rw (c .before .before .before .magnitude-of2 .ensures .0) (magnitude-pos _ (c .before .before .before .before .before .if1 .left) (search needs))))
 
--- src/lib.rt:139:13
 positive-requires-2 : tie.Need-positive-requires-2
 positive-requires-2 c κs = search needs
 
--- src/lib.rt:120:1
 returns-2 : tie.Need-returns-2
-returns-2 c = ?
+unfolding nearestBy signedBy nearestOf
+returns-2 c = let h : 0 < c .before .before .before .before .before .before .before .args .y = omega arith in rw (lt-ltb _ _ h, lt-ltb _ _ (c .before .before .if2 .taken), lt-ltb _ _ (c .before .if3 .taken)) (cc)
 
--- src/lib.rt:120:1
 returns-3 : tie.Need-returns-3
-returns-3 c = ?
+unfolding nearestBy signedBy nearestOf
+returns-3 c = let h : 0 < c .before .before .before .before .before .before .before .args .y = omega arith in rw (lt-ltb _ _ h, lt-ltb _ _ (c .before .before .if2 .taken), le-ltb _ _ (c .before .if3 .left)) (cc)
 
--- src/lib.rt:120:1
 returns-4 : tie.Need-returns-4
-returns-4 c = ?
+unfolding nearestBy signedBy nearestOf
+returns-4 c = let h : 0 < c .before .before .before .before .before .before .before .args .y = omega arith in rw (lt-ltb _ _ h, le-ltb _ _ (c .before .before .if2 .left), lt-ltb _ _ (c .before .if4 .taken)) (cc)
 
--- src/lib.rt:120:1
 returns-5 : tie.Need-returns-5
-returns-5 c = ?
+unfolding nearestBy signedBy nearestOf
+returns-5 c = let h : 0 < c .before .before .before .before .before .before .before .args .y = omega arith in rw (lt-ltb _ _ h, le-ltb _ _ (c .before .before .if2 .left), le-ltb _ _ (c .before .if4 .left)) (cc)
 
 pub nearest-spec : {M : Type 1} → statement M
 nearest-spec =
@@ -74,9 +62,8 @@ nearest-spec =
     returns
     magnitude-of-requires
     magnitude-of-requires-2
+    dividend-requires
     mul-n
-    add-n
-    mul-n-2
     div-n
     positive-requires
     negated-requires

@@ -1,39 +1,38 @@
+-- `arithmetic::shift_left` meets its contract: a number of 32 bits shifted by less than 32 stays within 64.
+use mathlib.Core.Path.{ap, _∙_}
+use Prim.Native.Nat.{_-_, _*_, _<_, _≤_}
+use native.Mathlib.Omega.{arith}
+use lib.Pow.{shl-exact}
+use borrow.Author.Tests.{lt-ltb, le-ltb}
+use Rattle.rules.specs.Arithmetic.{value, leftBy}
 use borrow.Author.Needs.{needs}
 use Rattle.arithmetic.proofs.shift_left.Statement.{statement}
 use Rattle.arithmetic.proofs.shift_left.Tie as tie
-use Rattle.arithmetic.proofs.shift_left.Reads as reads
-use Rattle.arithmetic.proofs.shift_left.Lts as lts
-use Rattle.arithmetic.proofs.bits_of.Reads as bits-of-reads
-use Rattle.arithmetic.proofs.cut_to.Reads as cut-to-reads
-use Rattle.arithmetic.proofs.wide.Reads as wide-reads
 
--- src/lib.rt:72:9
 wide-requires : tie.Need-wide-requires
 wide-requires c κs = search needs
 
--- src/lib.rt:73:12
 bits-of-requires : tie.Need-bits-of-requires
 bits-of-requires c κs = search needs
 
--- src/lib.rt:74:27
 wide-requires-2 : tie.Need-wide-requires-2
 wide-requires-2 c κs = search needs
 
--- src/lib.rt:74:27
 shl-cut-to : tie.Need-shl-cut-to
 shl-cut-to c = search needs
 
--- src/lib.rt:74:20
 cut-to-requires : tie.Need-cut-to-requires
 cut-to-requires c κs = search needs
 
--- src/lib.rt:68:1
 returns : tie.Need-returns
-returns c = ?
+unfolding leftBy
+returns c = let h : c .before .before .before .before .before .args .y < 8 * c .before .before .before .before .before .args .w = omega arith in
+    let k : c .before .before .before .before .wide .result < 32 = omega arith in
+    rw (lt-ltb _ _ h) (ap value (c .cut-to .ensures ∙ rw (shl-exact {a = c .before .wide2 .result} 32 (c .before .before .before .before .wide .result) 64 (search needs) (omega arith)) (cc)))
 
--- src/lib.rt:68:1
 returns-2 : tie.Need-returns-2
-returns-2 c = ?
+unfolding leftBy
+returns-2 c = let h : 8 * c .before .before .before .args .w ≤ c .before .before .before .args .y = omega arith in simp (le-ltb _ _ h)
 
 pub shift-left-spec : {M : Type 1} → statement M
 shift-left-spec =
