@@ -3,3 +3,4 @@ pub mod Packed
 pub mod Regions
 pub mod Entered
 pub mod Left
+pub mod Applied

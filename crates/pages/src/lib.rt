@@ -9,7 +9,7 @@ ghost use Rattle.rules.specs.State.{view, pageOwner, pageMark, written, putOwne
 ghost use Rattle.rules.specs.Heap.{placesInPage};
 ghost use Rattle.rules.specs.Step.{unownedPage};
 ghost use Rattle.state.specs.Marks.{lowestZero};
-ghost use Rattle.pages.specs.Search.{lowestPlace, roomIn, roomFrom, allocateFrom};
+ghost use Rattle.pages.specs.Search.{lowestPlace, placeFor, Found, allocateFrom};
 ghost use Rattle.pages.specs.Places.{openByte};
 ghost use Rattle.pages.specs.Meaning.{chosenEffect};
 use state::LiveRegion;
@@ -29,6 +29,9 @@ pub enum Chosen {
     Page(u32),
     Nothing,
 }
+
+// A page and a place in it.
+pub struct Spot(pub u32, pub u32);
 
 // ---- places
 
@@ -87,31 +90,32 @@ pub fn lowest_place(s: &[u8], p: u32, n: u32) -> u32
 
 // ---- pages
 
-// Page p is region r's and has an unused place.
-fn has_room(s: &[u8], p: u32, r: LiveRegion, n: u32) -> bool
+// The lowest unused place of page p where it is region r's; else n.
+fn place_for(s: &[u8], p: u32, r: LiveRegion, n: u32) -> u32
     requires { ⌜ (length (now s) ≡ stateBytes) × (p < pages) × (n ≤ pageBytes) ⌝ }
-    ensures { λ b. ⌜ b ≡ roomIn (pageOwner (now (s .entry))) (pageMark (now (s .entry))) (r .0) n p ⌝ }
+    ensures { λ j. ⌜ j ≡ placeFor (pageOwner (now (s .entry))) (pageMark (now (s .entry))) (r .0) n p ⌝ }
 {
     if wide(owner(s, p)) == wide(r.0) + 1 {
-        lowest_place(s, p, n) < n
+        lowest_place(s, p, n)
     } else {
-        false
+        n
     }
 }
 
-// The lowest page from low on, and below past, that is region r's and has an unused place; else past.
-pub fn room_page(s: &[u8], low: u32, past: u32, r: LiveRegion, n: u32) -> u32
+// The lowest page from low on, and below past, that is region r's and has an unused place, with its lowest; else past and n.
+pub fn find_room(s: &[u8], low: u32, past: u32, r: LiveRegion, n: u32) -> Spot
     requires { ⌜ (length (now s) ≡ stateBytes) × (low ≤ past) × (past ≤ pages) × (n ≤ pageBytes) ⌝ }
-    ensures { λ p. ⌜ p ≡ roomFrom (pageOwner (now (s .entry))) (pageMark (now (s .entry))) low past (r .0) n ⌝ }
+    ensures { λ x. ⌜ Found (pageOwner (now (s .entry))) (pageMark (now (s .entry))) low past (r .0) n (x .0) (x .1) ⌝ }
 {
     let mut p = low;
     while p < past {
-        if has_room(s, p, r, n) {
-            return p;
+        let j = place_for(s, p, r, n);
+        if j < n {
+            return Spot(p, j);
         }
         p += 1;
     }
-    p
+    Spot(p, n)
 }
 
 // The lowest page from low on, and below past, that nobody owns; else past.
@@ -135,9 +139,11 @@ pub fn allocate(s: &[u8], low: u32, free: u32, past: u32, r: LiveRegion, n: u32)
     requires { ⌜ (length (now s) ≡ stateBytes) × (low ≤ past) × (free ≤ past) × (past ≤ pages) × (n ≤ pageBytes) ⌝ }
     ensures { λ c. ⌜ ((size a : ℕ) → n ≡ placesInPage size → chosenEffect (r .0) size a c ≡ allocateFrom (view (now (s .entry)) .owner) (view (now (s .entry)) .mark) low free past (r .0) size a) ⌝ }
 {
-    let p = room_page(s, low, past, r, n);
+    let x = find_room(s, low, past, r, n);
+    let p = x.0;
+    let j = x.1;
     if p < past {
-        return Chosen::Place(p, lowest_place(s, p, n));
+        return Chosen::Place(p, j);
     }
     let q = unowned_page(s, free, past);
     if q < past {
