@@ -4,8 +4,13 @@ ghost use mathlib.Core.Bool.{Bool};
 ghost use Prim.Native.Nat.{_+_, _-_, _%_, _/_, _*_, _^_, _≤_, _<_};
 ghost use lib.Dec.{ltb, eqb};
 ghost use Rattle.words.specs.Widths.{IsWidth};
-ghost use Rattle.rules.specs.Arithmetic.{value, halt, cut, flag, valueIf, leftBy, rightBy, magnitude, nearestBy, biased, operationOf, operated, signExtended};
+ghost use Rattle.rules.specs.Arithmetic.{value, halt, cut, flag, valueIf, leftBy, rightBy, magnitude, nearestBy, negative, biased, operationOf, operated, signExtended};
 ghost use Rattle.arithmetic.specs.Meaning.{computedOf};
+
+// 256 to the width of an i32, and the lowest i32 that is negative.
+const WORD: u64 = 4294967296;
+
+const NEGATIVE: u32 = 2147483648;
 
 // What an operation gives: a value, or the number of a stop.
 pub enum Number {
@@ -29,7 +34,7 @@ fn range(w: u64) -> u64
     } else if w == 2 {
         65536
     } else {
-        4294967296
+        WORD
     }
 }
 
@@ -98,19 +103,19 @@ fn shift_right(w: u64, x: u32, y: u32) -> Number
 
 // How far an i32 lies from zero.
 fn magnitude_of(x: u32) -> u64
-    ensures { λ r. ⌜ (r ≡ magnitude x) × (r ≤ 2147483648) ⌝ }
+    ensures { λ r. ⌜ (r ≡ magnitude x) × (r ≤ negative) ⌝ }
 {
-    if x < 2147483648 {
+    if x < NEGATIVE {
         wide(x)
     } else {
-        4294967296 - wide(x)
+        WORD - wide(x)
     }
 }
 
 fn positive(q: u64) -> Number
-    ensures { λ r. ⌜ computedOf r ≡ valueIf (ltb q 2147483648) 36 q ⌝ }
+    ensures { λ r. ⌜ computedOf r ≡ valueIf (ltb q negative) 36 q ⌝ }
 {
-    if q < 2147483648 {
+    if q < (NEGATIVE as u64) {
         Number::Is(q as u32)
     } else {
         Number::Stop(36)
@@ -118,15 +123,15 @@ fn positive(q: u64) -> Number
 }
 
 fn negated(q: u64) -> Number
-    requires { ⌜ q ≤ 4294967296 ⌝ }
-    ensures { λ r. ⌜ computedOf r ≡ value (cut 4 (4294967296 - q)) ⌝ }
+    requires { ⌜ q ≤ 256 ^ 4 ⌝ }
+    ensures { λ r. ⌜ computedOf r ≡ value (cut 4 (256 ^ 4 - q)) ⌝ }
 {
-    Number::Is(((4294967296 - q) % 4294967296) as u32)
+    Number::Is(((WORD - q) % WORD) as u32)
 }
 
 // What is divided by 2q, so that the quotient of p and q comes out to the nearest, halves upwards.
 fn dividend(p: u64, q: u64) -> u64
-    requires { ⌜ (p ≤ 2147483648) × (q ≤ 2147483648) × (0 < q) ⌝ }
+    requires { ⌜ (p ≤ negative) × (q ≤ negative) × (0 < q) ⌝ }
     ensures { λ r. ⌜ r ≡ 2 * p + q ⌝ }
 {
     2 * p + q
@@ -142,14 +147,14 @@ fn nearest(x: u32, y: u32) -> Number
     let p = magnitude_of(x);
     let q = magnitude_of(y);
     let n = dividend(p, q) / (2 * q);
-    if x < 2147483648 {
-        if y < 2147483648 {
+    if x < NEGATIVE {
+        if y < NEGATIVE {
             positive(n)
         } else {
             negated(n)
         }
     } else {
-        if y < 2147483648 {
+        if y < NEGATIVE {
             negated(n)
         } else {
             positive(n)
@@ -218,6 +223,6 @@ pub fn extend(u: u64, w: u64, x: u32) -> u32
     if 2 * wide(x) < m {
         cut_to(wide(x), u)
     } else {
-        cut_to(wide(x) + (4294967296 - m), u)
+        cut_to(wide(x) + (WORD - m), u)
     }
 }

@@ -1,13 +1,12 @@
 -- What `enter` and `leave` write is what rules' effects of kinds 33 and 34 write, where the tables are the module's. Assumes nothing.
-use mathlib.Core.Path.{_≡_, refl, sym, ap, ap₂, _∙_}
-use mathlib.Core.List.{List, [], _∷_, _++_}
-use Prim.Native.Nat.{ℕ, suc, _<_, _≤_}
+use mathlib.Core.Path.{_≡_, sym, ap, ap₂, _∙_}
+use mathlib.Core.List.{List, [], _∷_}
+use Prim.Native.Nat.{ℕ, suc, _<_}
 use native.Mathlib.Omega.{arith}
 use Rattle.words.specs.Bytes.{Bytes, AllBytes, byteAt}
 use Rattle.rules.specs.Types.{Variable, region, arg}
 use Rattle.rules.specs.Module.{Module, Function, argument}
-use Rattle.rules.specs.Heap.{liveList}
-use Rattle.rules.specs.State.{frameFunction, frameRegister, frameMap, pageOwner, view, Write, written, putFrames, putFrame, putStatus, putResult}
+use Rattle.rules.specs.State.{frameFunction, frameRegister, frameMap, view, Write, written, putFrames, putFrame, putStatus, putResult}
 use Rattle.rules.specs.Step.{push, pop, finish, calleeMap, calleeRegisters}
 use Rattle.rules.specs.Writes.{leaving, setAndOn, stateWrites, applyState}
 use Rattle.state.specs.Closing.{written-append}

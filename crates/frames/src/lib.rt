@@ -30,9 +30,14 @@ use state::fields::region_of;
 use state::fields::register;
 use words::wide;
 
+// The entries of a set of regions, and of a table by function number.
+const SET: usize = 257;
+
+const TABLE: usize = 256;
+
 // ---- sets of regions: entry 1 + r is 1 where region r is in the set
 
-fn add_region(a: &mut [u8; 257], r: LiveRegion)
+fn add_region(a: &mut [u8; SET], r: LiveRegion)
     ensures { λ _. ⌜ now (a .exit) ≡ set (now (a .entry)) (suc (r .0)) 1 ⌝ }
 {
     let i = r.0 as usize;
@@ -40,7 +45,7 @@ fn add_region(a: &mut [u8; 257], r: LiveRegion)
 }
 
 // The set with the n regions of frame k from variable lo on.
-fn add_locals(a: &mut [u8; 257], s: &[u8], k: u32, lo: u32, n: u32)
+fn add_locals(a: &mut [u8; SET], s: &[u8], k: u32, lo: u32, n: u32)
     requires { ⌜ (length (now s) ≡ stateBytes) × (k < mostFrames) × (lo + n ≤ mostRegions) ⌝ }
     ensures { λ _. ⌜ now (a .exit) ≡ marked (localList (frameMap (now (s .entry)) k) lo n) (now (a .entry)) ⌝ }
 {
@@ -53,7 +58,7 @@ fn add_locals(a: &mut [u8; 257], s: &[u8], k: u32, lo: u32, n: u32)
 }
 
 // A table's entry for function g.
-fn count_of(table: &[u8; 256], g: u8) -> u32
+fn count_of(table: &[u8; TABLE], g: u8) -> u32
     ensures { λ n. ⌜ (n ≡ byteAt (now (table .entry)) g) × (n < 256) ⌝ }
 {
     let i = g as usize;
@@ -61,7 +66,13 @@ fn count_of(table: &[u8; 256], g: u8) -> u32
 }
 
 // The set with the local regions of the lowest n frames, and how many they are.
-fn add_frames(a: &mut [u8; 257], params: &[u8; 256], locals: &[u8; 256], s: &[u8], n: u32) -> u32
+fn add_frames(
+    a: &mut [u8; SET],
+    params: &[u8; TABLE],
+    locals: &[u8; TABLE],
+    s: &[u8],
+    n: u32,
+) -> u32
     requires { ⌜ (length (now s) ≡ stateBytes) × (n ≤ mostFrames) × Bounded (now params) (now locals) ⌝ }
     ensures { λ c. ⌜ (now (a .exit) ≡ marked (liveBy (now (params .entry)) (now (locals .entry)) (frameFunction (now (s .entry))) (frameMap (now (s .entry))) n) (now (a .entry))) × (c ≡ length (liveBy (now (params .entry)) (now (locals .entry)) (frameFunction (now (s .entry))) (frameMap (now (s .entry))) n)) × (c ≤ liveRegions) ⌝ }
 {
@@ -78,7 +89,7 @@ fn add_frames(a: &mut [u8; 257], params: &[u8; 256], locals: &[u8; 256], s: &[u8
 }
 
 // The lowest region that is not in a set of n regions.
-fn lowest_number(a: &[u8; 257], n: u32) -> u32
+fn lowest_number(a: &[u8; SET], n: u32) -> u32
     requires { ⌜ n < 255 ⌝ }
     ensures { λ r. ⌜ (r ≡ lowestIn (now (a .entry)) n) × (r ≤ n + 1) ⌝ }
 {
@@ -97,7 +108,7 @@ fn lowest_number(a: &[u8; 257], n: u32) -> u32
 // ---- the frame of a call
 
 // The lowest region that is not in the set of n regions, into the set and into map entry v of frame t.
-fn put_local(a: &mut [u8; 257], n: u32, s: &mut [u8], t: u32, v: u32)
+fn put_local(a: &mut [u8; SET], n: u32, s: &mut [u8], t: u32, v: u32)
     requires { ⌜ (length (now s) ≡ stateBytes) × (n < 255) × (t < mostFrames) × (v < mostRegions) ⌝ }
     ensures { λ _. ⌜ (now (s .exit) ≡ after (putRegion t v (lowestIn (now (a .entry)) n)) (now (s .entry))) × (now (a .exit) ≡ set (now (a .entry)) (suc (lowestIn (now (a .entry)) n)) 1) ⌝ }
 {
@@ -107,7 +118,7 @@ fn put_local(a: &mut [u8; 257], n: u32, s: &mut [u8], t: u32, v: u32)
 }
 
 // The m map entries of frame t from lo on: the lowest regions that are not in the set of n regions, in order.
-fn put_locals(a: &mut [u8; 257], n: u32, s: &mut [u8], t: u32, lo: u32, m: u32)
+fn put_locals(a: &mut [u8; SET], n: u32, s: &mut [u8], t: u32, lo: u32, m: u32)
     requires { ⌜ (length (now s) ≡ stateBytes) × (n ≤ liveRegions) × (t < mostFrames) × (lo + m ≤ mostRegions) ⌝ }
     ensures { λ _. ⌜ (now (s .exit) ≡ putRegions t lo (numberIn (now (a .entry)) n) m (now (s .entry))) × (now (a .exit) ≡ filled (now (a .entry)) n m) ⌝ }
 {
@@ -160,8 +171,8 @@ fn begin(s: &mut [u8], k: u32, t: u32, g: u8, n: u32, p: u32, xs: u64, rs: u32)
 
 // The frame above k for a call of function g: p arguments xs, its region parameters rs, its local regions the lowest numbers not live.
 fn make_frame(
-    params: &[u8; 256],
-    locals: &[u8; 256],
+    params: &[u8; TABLE],
+    locals: &[u8; TABLE],
     s: &mut [u8],
     k: u32,
     g: u8,
@@ -176,7 +187,7 @@ fn make_frame(
     let n = count_of(params, g);
     let m = count_of(locals, g);
     if 0 < m {
-        let mut a = [0u8; 257];
+        let mut a = [0u8; SET];
         let c = add_frames(&mut a, params, locals, s, t);
         begin(s, k, t, g, n, p, xs, rs);
         put_locals(&mut a, c, s, t, n, m);
@@ -187,8 +198,8 @@ fn make_frame(
 
 // A call of function g by frame k, which is the top frame.
 pub fn enter(
-    params: &[u8; 256],
-    locals: &[u8; 256],
+    params: &[u8; TABLE],
+    locals: &[u8; TABLE],
     s: &mut [u8],
     k: u32,
     g: u8,
@@ -206,7 +217,7 @@ pub fn enter(
 // ---- a return
 
 // Page p is nobody's now and has no used place, where a region of the set owns it.
-fn close_page(a: &[u8; 257], s: &mut [u8], p: u32)
+fn close_page(a: &[u8; SET], s: &mut [u8], p: u32)
     requires { ⌜ (length (now s) ≡ stateBytes) × (p < pages) ⌝ }
     ensures { λ _. ⌜ now (s .exit) ≡ closedIf (ownedIn (now (a .entry)) (now (s .entry)) p) p (now (s .entry)) ⌝ }
 {
@@ -217,7 +228,7 @@ fn close_page(a: &[u8; 257], s: &mut [u8], p: u32)
     }
 }
 
-fn close_pages(a: &[u8; 257], s: &mut [u8])
+fn close_pages(a: &[u8; SET], s: &mut [u8])
     requires { ⌜ length (now s) ≡ stateBytes ⌝ }
     ensures { λ _. ⌜ now (s .exit) ≡ written (closingBy (ownedIn (now (a .entry)) (now (s .entry))) pages) (now (s .entry)) ⌝ }
 {
@@ -234,7 +245,7 @@ fn close_locals(s: &mut [u8], k: u32, n: u32, m: u32)
     ensures { λ _. ⌜ now (s .exit) ≡ written (closingBy (ownedIn (localSet (now (s .entry)) k n m) (now (s .entry))) pages) (now (s .entry)) ⌝ }
 {
     if 0 < m {
-        let mut a = [0u8; 257];
+        let mut a = [0u8; SET];
         add_locals(&mut a, s, k, n, m);
         close_pages(&a, s);
     }

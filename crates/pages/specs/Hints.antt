@@ -3,18 +3,17 @@
 use mathlib.Core.Path.{_≡_, refl, sym, ap, ap₂, _∙_}
 use mathlib.Core.Bool.{Bool, true, false, cond, not, _&&_, false≢true}
 use mathlib.Core.Logic.{_⊎_, inl, inr, ⊎-elim, _≢_}
-use Prim.Native.Nat.{ℕ, suc, _+_, _-_, _<_, _≤_}
+use Prim.Native.Nat.{ℕ, suc, _-_, _<_, _≤_}
 use native.Mathlib.Omega.{arith}
 use lib.Dec.{eqb, ltb}
 use borrow.Author.Tests.{ne-eqb, eq-eqb}
-use Rattle.words.specs.First.{first, firstFrom}
-use Rattle.words.specs.FirstLaws.{Least, first-agree}
-use Rattle.words.specs.Choose.{eq-or-ne, split}
+use Rattle.words.specs.FirstLaws.{first-agree}
+use Rattle.words.specs.Choose.{eq-or-ne}
 use Rattle.rules.specs.Module.{Module}
 use Rattle.rules.specs.Heap.{placesInPage}
 use Rattle.rules.specs.State.{View}
 use Rattle.rules.specs.Step.{unusedPlace, hasRoom, roomPage, unownedPage, closes}
-use Rattle.state.specs.Update.{upd, upd2, upd-same, upd-other}
+use Rattle.state.specs.Update.{upd, upd-same, upd-other}
 use Rattle.state.specs.Apply.{closedOwner, closedMark}
 use Rattle.state.specs.Marks.{used}
 use Rattle.pages.specs.Search.{NoRoomBelow, OwnedBelow, from-least}

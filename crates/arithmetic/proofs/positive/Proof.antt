@@ -6,8 +6,11 @@ use borrow.Author.Needs.{needs}
 use Rattle.arithmetic.proofs.positive.Statement.{statement}
 use Rattle.arithmetic.proofs.positive.Tie as tie
 
-cast-t4 : tie.Need-cast-t4
-cast-t4 c = search needs
+cast-if1 : tie.Need-cast-if1
+cast-if1 c = search needs
+
+cast-t5 : tie.Need-cast-t5
+cast-t5 c = search needs
 
 returns : tie.Need-returns
 unfolding valueIf
@@ -18,4 +21,4 @@ unfolding valueIf
 returns-2 c = simp (le-ltb _ _ (c .if1 .left))
 
 pub positive-spec : {M : Type 1} → statement M
-positive-spec = tie.close (tie.spec cast-t4 returns returns-2)
+positive-spec = tie.close (tie.spec cast-if1 cast-t5 returns returns-2)
