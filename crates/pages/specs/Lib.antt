@@ -3,3 +3,4 @@ pub mod Search
 pub mod Hints
 pub mod Places
 pub mod Meaning
+pub mod Applied

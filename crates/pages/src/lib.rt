@@ -11,7 +11,7 @@ ghost use Rattle.rules.specs.Step.{unownedPage};
 ghost use Rattle.state.specs.Marks.{lowestZero};
 ghost use Rattle.pages.specs.Search.{lowestPlace, placeFor, Found, allocateFrom};
 ghost use Rattle.pages.specs.Places.{openByte};
-ghost use Rattle.pages.specs.Meaning.{chosenEffect};
+ghost use Rattle.pages.specs.Meaning.{chosenEffect, Within};
 use state::LiveRegion;
 use state::Machine;
 use state::fields::clear_mark;
@@ -137,7 +137,7 @@ pub fn unowned_page(s: &[u8], low: u32, past: u32) -> u32
 // is so, this is rules' `allocate` (allocate-hint); from the first page on it always is (allocate-plain).
 pub fn allocate(s: &[u8], low: u32, free: u32, past: u32, r: LiveRegion, n: u32) -> Chosen
     requires { ⌜ (length (now s) ≡ stateBytes) × (low ≤ past) × (free ≤ past) × (past ≤ pages) × (n ≤ pageBytes) ⌝ }
-    ensures { λ c. ⌜ ((size a : ℕ) → n ≡ placesInPage size → chosenEffect (r .0) size a c ≡ allocateFrom (view (now (s .entry)) .owner) (view (now (s .entry)) .mark) low free past (r .0) size a) ⌝ }
+    ensures { λ c. ⌜ Within past n c × ((size a : ℕ) → n ≡ placesInPage size → chosenEffect (r .0) size a c ≡ allocateFrom (view (now (s .entry)) .owner) (view (now (s .entry)) .mark) low free past (r .0) size a) ⌝ }
 {
     let x = find_room(s, low, past, r, n);
     let p = x.0;
