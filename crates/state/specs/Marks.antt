@@ -12,7 +12,7 @@ use Rattle.words.specs.Bytes.{Bytes, AllBytes, byteAt}
 use Rattle.words.specs.Bits.{bit}
 use Rattle.words.specs.BitLaws.{bit-zero, bit-one, bits-same}
 use Rattle.words.specs.First.{first}
-use Rattle.words.specs.FirstLaws.{first-is, first-before, first-fails, first-all}
+use Rattle.words.specs.FirstLaws.{first-found, first-ended, first-is, first-before, first-fails, first-all}
 use Rattle.words.specs.Choose.{lt-or-le, eq-or-ne}
 use Rattle.rules.specs.Limits.{pages, pageBytes, markBytes}
 use Rattle.rules.specs.State.{marksPlace, pageMark}
@@ -122,3 +122,44 @@ first-fewer n m t h l = first-is n t (first m t) (omega arith) (λ j b. first-be
 
 pub first-past : (n m : ℕ) (t : ℕ → Bool) → n ≤ first m t → first n t ≡ n
 first-past n m t h = first-is n t n (omega arith) (λ j b. first-before m t j (omega arith)) (λ b. absurd (omega arith))
+
+-- ---- what the code's scans have at their ends
+
+-- bits from the lowest on: none yet, one more, found, none found
+pub used-none : (c j : ℕ) → j < 0 → used (bit c j) ≡ true
+used-none c j h = absurd (omega arith)
+
+pub used-more : (c i : ℕ) → ((j : ℕ) → j < i → used (bit c j) ≡ true) → bit c i ≢ 0 → (j : ℕ) → j < i + 1 → used (bit c j) ≡ true
+used-more c i h n j l = ⊎-elim (λ a. h j a) (λ a. let e : j ≡ i = omega arith in rw e (used-one (bit c i) n)) (lt-or-le j i)
+
+pub lowest-found : (c i : ℕ) → i < 8 → ((j : ℕ) → j < i → used (bit c j) ≡ true) → bit c i ≡ 0 → i ≡ lowestZero c
+unfolding lowestZero
+lowest-found c i l h e = first-found 8 (λ j. used (bit c j)) i h l (used-zero (bit c i) e)
+
+pub lowest-ended : (c i : ℕ) → i ≤ 8 → 8 ≤ i → ((j : ℕ) → j < i → used (bit c j) ≡ true) → 8 ≡ lowestZero c
+unfolding lowestZero
+lowest-ended c i l m h = let e : 8 ≡ i = omega arith in e ∙ first-ended 8 (λ j. used (bit c j)) i h l m
+
+-- bytes of a page, and of its places the first n
+pub full-none : (s : Bytes) (a j : ℕ) → j < 0 → byteAt s (a + j) ≡ 255
+full-none s a j h = absurd (omega arith)
+
+pub full-more : (s : Bytes) (a i : ℕ) → ((j : ℕ) → j < i → byteAt s (a + j) ≡ 255) → byteAt s (a + i) ≡ 255 → (j : ℕ) → j < i + 1 → byteAt s (a + j) ≡ 255
+full-more s a i h e j l = ⊎-elim (λ b. h j b) (λ b. let d : j ≡ i = omega arith in rw d e) (lt-or-le j i)
+
+module _ (s : Bytes) (p n : ℕ) (inside : p < pages) (few : n ≤ pageBytes) where
+  pub place-found : AllBytes s → (i : ℕ) → i < markBytes → ((q : ℕ) → q < i → byteAt s (marksPlace p + q) ≡ 255) → (b : ℕ) → b ≡ byteAt s (marksPlace p + i) → b ≢ 255
+      → (j : ℕ) → j ≡ 8 * i + lowestZero b → j < n → j ≡ first n (λ k. used (pageMark s p k))
+  place-found f i l h b e d j w u =
+      let t : first pageBytes (λ k. used (pageMark s p k)) ≡ j = unused-in s p inside f i l h (λ c. d (e ∙ c)) ∙ sym (w ∙ ap (λ (x : ℕ). 8 * i + lowestZero x) e) in
+      sym (first-fewer n pageBytes (λ k. used (pageMark s p k)) few (rw t u) ∙ t)
+
+  pub place-past : AllBytes s → (i : ℕ) → i < markBytes → ((q : ℕ) → q < i → byteAt s (marksPlace p + q) ≡ 255) → (b : ℕ) → b ≡ byteAt s (marksPlace p + i) → b ≢ 255
+      → (j : ℕ) → j ≡ 8 * i + lowestZero b → n ≤ j → n ≡ first n (λ k. used (pageMark s p k))
+  place-past f i l h b e d j w u =
+      let t : first pageBytes (λ k. used (pageMark s p k)) ≡ j = unused-in s p inside f i l h (λ c. d (e ∙ c)) ∙ sym (w ∙ ap (λ (x : ℕ). 8 * i + lowestZero x) e) in
+      sym (first-past n pageBytes (λ k. used (pageMark s p k)) (rw t u))
+
+  pub place-none : (i : ℕ) → markBytes ≤ i → ((q : ℕ) → q < i → byteAt s (marksPlace p + q) ≡ 255) → n ≡ first n (λ k. used (pageMark s p k))
+  place-none i l h =
+      sym (first-past n pageBytes (λ k. used (pageMark s p k)) (rw (unused-none s p inside (λ q u. h q (omega arith))) few))

@@ -1,23 +1,21 @@
 -- What acceptance means: the framing is right, each record fits, and the module is well typed; and the other way round.
 -- Assumes nothing.
-use mathlib.Core.Path.{_≡_, refl, sym, ap, _∙_, subst}
-use mathlib.Core.Bool.{Bool, true, false, cond, _&&_}
+use mathlib.Core.Path.{_≡_, refl, sym, _∙_, subst}
+use mathlib.Core.Bool.{true, cond, _&&_}
 use mathlib.Core.Logic.{_↔_}
-use mathlib.Core.List.{List, [], _∷_, _++_}
-use Prim.Native.Nat.{ℕ, zero, suc, _+_, _-_, _*_, _/_, _%_, _<_, _≤_}
-use native.Mathlib.Nat.{not-suc-le-zero}
-use native.Mathlib.Decide.{ℕ-discrete, decLt}
+use mathlib.Core.List.{List, [], _∷_}
+use Prim.Native.Nat.{ℕ, _+_, _-_, _*_, _/_, _%_, _<_, _≤_}
+use native.Mathlib.Decide.{ℕ-discrete}
 use native.Mathlib.Omega.{arith}
-use lib.Dec.{ltb, leb, eqb}
+use lib.Dec.{leb, eqb}
 use lib.ListN.{getD}
 use borrow.Author.Tests.{leb-true, eq-eqb, ne-eqb}
 use Rattle.words.specs.Bytes.{Bytes, listOf}
 use Rattle.rules.specs.Limits.{mostRegions, mostRegionParams, mostEntries, mostRegisters, mostInstructions}
-use Rattle.rules.specs.Decide.{does, does-true, decBoth, decImp}
-use Rattle.rules.specs.Stages.{Stage, verdict}
+use Rattle.rules.specs.Decide.{does-true, decBoth, decImp}
+use Rattle.rules.specs.Stages.{Stage}
 use Rattle.rules.specs.File.{blocks, records, recordOf, lengthRight, placeRight, checkRight, lengthStage, blockStage, blockTest, regionsOf, parametersOf, instructionsOf, within}
 use Rattle.rules.specs.Types.{variable, Tree}
-use Rattle.rules.specs.Module.{Module, Function}
 use Rattle.rules.specs.Walk.{whole}
 use Rattle.rules.specs.Records.{headRanges, recordTest, recordStage}
 use Rattle.rules.specs.Decode.{treesOf, functionOf, moduleOf}
@@ -25,10 +23,8 @@ use Rattle.rules.specs.Decision.{decTyped}
 use Rattle.rules.specs.WellTyped.{FunctionOk, EntryOk, Ranges, Tables, WellTyped, decTerm, decStruct, decFunction, decEntry, decLast}
 use Rattle.rules.specs.Verdict.{termTest, structTest, functionTest, instructionTest, instructionStage, lastStage, lastTest, moduleStages, acceptedAs, moduleRules, recordRules, verdictOf}
 use Rattle.rules.specs.Claim.{IsAccepted}
-use Rattle.rules.specs.declared.Verdict.{Verdict}
-use Rattle.rules.specs.declared.Verdict.the-variants.{Accepted, Refused}
 use Rattle.typing.specs.Tests.{left, right, true-does}
-use Rattle.typing.specs.Stages.{Passes, AllPass, all-pass, pass-all, pass-append, append-pass, pass-each, each-pass}
+use Rattle.typing.specs.Stages.{AllPass, all-pass, pass-all, pass-append, append-pass, pass-each, each-pass}
 use Rattle.typing.specs.Walk.{Fits, good, some-function}
 
 -- ---- refusals 1 to 4 find nothing

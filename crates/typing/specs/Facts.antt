@@ -1,10 +1,9 @@
 -- What the theorem on runs takes from an accepted file: `facts` lists it, function by function. Assumes nothing.
-use mathlib.Core.Path.{_≡_, refl, sym, subst}
+use mathlib.Core.Path.{_≡_, sym, subst}
 use mathlib.Core.Bool.{Bool, true, false, cond}
-use mathlib.Core.Logic.{_⊎_, inl, inr}
-use mathlib.Core.List.{List, [], _∷_}
-use Prim.Native.Nat.{ℕ, zero, suc, _+_, _-_, _<_, _≤_}
-use native.Mathlib.Decide.{ℕ-discrete, decLt}
+use mathlib.Core.List.{List}
+use Prim.Native.Nat.{ℕ, suc, _-_, _<_, _≤_}
+use native.Mathlib.Decide.{ℕ-discrete}
 use native.Mathlib.Omega.{arith}
 use lib.Dec.{ltb}
 use lib.ListN.{length}
@@ -12,16 +11,16 @@ use borrow.Author.Tests.{lt-ltb}
 use Rattle.words.specs.Bytes.{Bytes}
 use Rattle.rules.specs.Limits.{sizeLimit, mostFunctions}
 use Rattle.rules.specs.Decide.{Each, none, more}
-use Rattle.rules.specs.Types.{variable, Variable, Tree, int, ptr, arr, struct, width, Uses, in-int, in-ptr, in-arr, in-struct, Primitive}
+use Rattle.rules.specs.Types.{variable, Variable, Tree, ptr, width, Uses, in-int, in-ptr, in-arr, in-struct, Primitive}
 use Rattle.rules.specs.Module.{Module, Function, regions, Instruction, constant, copy, operate, zeroExtend, signExtend, address, check, field, index, load, store, new, free, input, output, jump, branch, call, return}
 use Rattle.rules.specs.Flat.{size, structFlat}
 use Rattle.rules.specs.Decode.{moduleOf}
 use Rattle.rules.specs.Typing.{Typed}
-use Rattle.rules.specs.WellTyped.{TermOk, scopeOf, FunctionOk, EntryOk, Ranges, Last, last-jump, last-return, WellTyped}
+use Rattle.rules.specs.WellTyped.{scopeOf, FunctionOk, EntryOk, Ranges, Last, last-jump, last-return, WellTyped}
 use Rattle.rules.specs.Verdict.{verdictOf}
 use Rattle.rules.specs.Claim.{IsAccepted}
 use Rattle.typing.specs.Accepted.{accepted}
-use Rattle.typing.specs.Types.{Width, Deep, deep-ok, deep-target, primitive-width, width-small, DeepFunction, DeepModule, deep}
+use Rattle.typing.specs.Types.{Deep, deep-ok, deep-target, primitive-width, width-small, DeepFunction, DeepModule, deep}
 use Rattle.typing.specs.Flat.{some-size, struct-some}
 
 -- ---- regions used

@@ -10,3 +10,4 @@ pub mod Facts
 pub mod Refused
 pub mod Order
 pub mod Verdicts
+pub mod Decode

@@ -3,31 +3,25 @@
 use mathlib.Core.Path.{_≡_, refl, sym, ap, _∙_, subst}
 use mathlib.Core.Bool.{Bool, true, false, cond, false≢true}
 use mathlib.Core.Logic.{_⊎_, inl, inr, _≢_}
-use mathlib.Core.List.{List, [], _∷_}
 use Prim.Native.Nat.{ℕ, zero, suc, _+_, _-_, _*_, _/_, _%_, _<_, _≤_}
 use native.Mathlib.Nat.{not-suc-le-zero}
 use native.Mathlib.Decide.{ℕ-discrete, decLt}
 use native.Mathlib.Omega.{arith}
 use lib.Dec.{eqb}
-use lib.ListN.{getD}
 use borrow.Author.Tests.{eq-eqb, ne-eqb}
 use Rattle.words.specs.Bytes.{Bytes}
 use Rattle.rules.specs.Decide.{does-true}
-use Rattle.rules.specs.File.{blocks, placeRight, checkRight, recordOf, instructionsOf, blockStage, blockTest}
-use Rattle.rules.specs.Walk.{whole}
-use Rattle.rules.specs.Records.{recordTest, recordStage}
-use Rattle.rules.specs.Module.{Module, Function}
+use Rattle.rules.specs.File.{blocks, placeRight, checkRight, recordOf, instructionsOf, blockTest}
+use Rattle.rules.specs.Records.{recordTest}
 use Rattle.rules.specs.Decode.{codeAt, codePlaces, structStart, functionOf, moduleOf, startOf, instructionAt}
 use Rattle.rules.specs.Typing.{Typed}
 use Rattle.rules.specs.Decision.{decTyped}
 use Rattle.rules.specs.WellTyped.{TermOk, StructOk, FunctionOk, EntryOk, Last, decTerm, decStruct, decLast}
-use Rattle.rules.specs.Verdict.{Broken, termTest, structTest, functionTest, instructionTest, instructionStage, termStage, structStage, functionStage, lastStage, lastTest, verdictOf}
-use Rattle.rules.specs.declared.Verdict.{Verdict}
-use Rattle.rules.specs.declared.Verdict.the-variants.{Accepted, Refused}
-use Rattle.typing.specs.Stages.{Passes, Fails, FirstOf}
+use Rattle.rules.specs.Verdict.{Broken, termTest, structTest, instructionTest, instructionStage, lastTest, verdictOf}
+use Rattle.rules.specs.declared.Verdict.the-variants.{Refused}
 use Rattle.typing.specs.Walk.{Fits, endOf, skip, skip-from, skip-less, place-at, code-from, end-from, good}
 use Rattle.typing.specs.Accepted.{even-test, odd-test, module-ranges}
-use Rattle.typing.specs.Refused.{Passed, Where, fileLength, block, record-at, term, struct, function, instruction, last, where-refused, not-lower, broken-number, function-test}
+use Rattle.typing.specs.Refused.{Passed, Where, fileLength, block, record-at, term, struct, function, instruction, last, where-refused, not-lower, function-test}
 
 -- "2 place or count of a block, 3 its check: block by block, 2 first": 2 and 3 stand in one row, two steps for each block
 abbrev pub row : ℕ → ℕ
@@ -254,7 +248,7 @@ module _ (f : Bytes) where
   none-before n p (function a h) {m} {q} b l = go (earlier-at m q (h .number) (h .place) l)
     where
       six : BadFunction f q → q < startOf f (h .j) → ⊥
-      six k z = k .1 .1 .1 (function-test f (k .0) (h .before (k .0) (start-order f (a .records (omega arith)) (k .0) (h .j) (k .1 .0) (omega (arith, k .1 .1 .0, z)))))
+      six k z = k .1 .1 .1 (function-test f (k .0) (h .before (k .0) (start-order f (a 4 (omega arith)) (k .0) (h .j) (k .1 .0) (omega (arith, k .1 .1 .0, z)))))
 
       go : Earlier m q 6 (startOf f (h .j)) → ⊥
       go (inl z) = lower a b z (λ e. omega arith)
@@ -268,7 +262,7 @@ module _ (f : Bytes) where
 
       seven : BadInstruction f q → q < instructionAt f (h .i) (h .fails .j) → ⊥
       seven k z =
-          let o = instruction-order f (a .records (omega arith)) (k .0) (h .i) (k .1 .0) (h .fails .j) (k .1 .1 .0) (k .1 .1 .1 .0) (h .fails .inside)
+          let o = instruction-order f (a 4 (omega arith)) (k .0) (h .i) (k .1 .0) (h .fails .j) (k .1 .1 .0) (k .1 .1 .1 .0) (h .fails .inside)
           (omega (arith, k .1 .1 .1 .1 .0, z)) in
           k .1 .1 .1 .1 .1 (does-true (decTyped (moduleOf f) (moduleOf f .function (k .0)) (moduleOf f .function (k .0) .code (k .1 .0)))
           (unfold instructionTest in typed (k .0) (k .1 .0) (k .1 .1 .0) (k .1 .1 .1 .0) o))
@@ -279,10 +273,10 @@ module _ (f : Bytes) where
   none-before n p (last a h) {m} {q} b l = go (earlier-at m q (h .number) (h .place) l)
     where
       some-last : (g : ℕ) → g < moduleOf f .functions → moduleOf f .function g .length - 1 < moduleOf f .function g .length
-      some-last g k = omega (arith, module-ranges f (a .records (omega arith)) g k .some)
+      some-last g k = omega (arith, module-ranges f (a 4 (omega arith)) g k .some)
 
       eight : BadLast f q → q < instructionAt f (h .j) (moduleOf f .function (h .j) .length - 1) → ⊥
-      eight k z = after-order (instruction-order f (a .records (omega arith)) (k .0) (h .j) (moduleOf f .function (k .0) .length - 1)
+      eight k z = after-order (instruction-order f (a 4 (omega arith)) (k .0) (h .j) (moduleOf f .function (k .0) .length - 1)
           (moduleOf f .function (h .j) .length - 1) (k .1 .0) (some-last (k .0) (k .1 .0)) (some-last (h .j) (h .inside)) (omega (arith, k .1 .1 .0, z)))
         where
           after-order : (k .0 < h .j) ⊎ ((k .0 ≡ h .j) × (moduleOf f .function (k .0) .length - 1 < moduleOf f .function (h .j) .length - 1)) → ⊥

@@ -1,26 +1,23 @@
 -- What a refusal means: its rule is broken at its place, and in an accepted file no rule is broken. Assumes nothing.
 use mathlib.Core.Path.{_≡_, refl, sym, ap, _∙_, subst}
-use mathlib.Core.Bool.{Bool, true, false, cond, false≢true}
+use mathlib.Core.Bool.{true, false, false≢true}
 use mathlib.Core.Logic.{_⊎_, inl, inr}
-use mathlib.Core.List.{List, [], _∷_, _++_}
+use mathlib.Core.List.{[], _∷_}
 use Prim.Native.Nat.{ℕ, zero, suc, _+_, _-_, _*_, _/_, _%_, _<_, _≤_}
-use native.Mathlib.Decide.{ℕ-discrete, decLt}
+use native.Mathlib.Decide.{ℕ-discrete}
 use native.Mathlib.Omega.{arith}
-use lib.Dec.{eqb}
 use borrow.Author.Tests.{eq-eqb, ne-eqb}
 use Rattle.words.specs.Bytes.{Bytes, listOf}
-use Rattle.rules.specs.Decide.{does, does-false, does-true, decBoth, decImp}
-use Rattle.rules.specs.Stages.{Stage, verdict}
-use Rattle.rules.specs.File.{blocks, records, placeRight, checkRight, lengthStage, blockStage, blockTest}
-use Rattle.rules.specs.Records.{recordTest, recordStage}
-use Rattle.rules.specs.Module.{Module, Function}
+use Rattle.rules.specs.Decide.{does-false, does-true, decBoth, decImp}
+use Rattle.rules.specs.Stages.{verdict}
+use Rattle.rules.specs.File.{lengthStage, blockStage, blockTest}
+use Rattle.rules.specs.Records.{recordStage}
 use Rattle.rules.specs.Decode.{moduleOf, startOf}
 use Rattle.rules.specs.Decision.{decTyped}
 use Rattle.rules.specs.WellTyped.{FunctionOk, EntryOk, decTerm, decStruct, decFunction, decEntry, decLast}
 use Rattle.rules.specs.Verdict.{Broken, termTest, structTest, functionTest, instructionTest, instructionStage, termStage, structStage, functionStage, lastStage, lastTest, moduleStages, acceptedAs, moduleRules, recordRules, verdictOf}
 use Rattle.rules.specs.Claim.{IsAccepted}
-use Rattle.rules.specs.declared.Verdict.{Verdict}
-use Rattle.rules.specs.declared.Verdict.the-variants.{Accepted, Refused}
+use Rattle.rules.specs.declared.Verdict.the-variants.{Refused}
 use Rattle.typing.specs.Stages.{Passes, AllPass, pass-append, pass-each, verdict-append, Fails, FirstIn, here, later, first-in, in-append, FirstOf, in-list}
 use Rattle.typing.specs.Accepted.{stages, no-failure, even-test, odd-test}
 
@@ -40,16 +37,32 @@ first-failure f n p e = only (first-in (stages f) (acceptedAs (moduleOf f)) n p 
     only (inl h) = h
     only (inr h) = absurd (subst IsAccepted (h .1) tt)
 
--- the stages of lower numbers pass
-pub record Passed (f : Bytes) (k : ℕ) : Type 0 where
-  pub fileLength : 1 < k → Passes (lengthStage f)
-  pub blocks : 3 < k → Passes (blockStage f)
-  pub records : 4 < k → Passes (recordStage f)
-  pub terms : 5 < k → Passes (termStage (moduleOf f))
-  pub structs : 5 < k → Passes (structStage (moduleOf f))
-  pub functions : 6 < k → Passes (functionStage f (moduleOf f))
-  pub instructions : 7 < k → (g : ℕ) → g < moduleOf f .functions → Passes (instructionStage f (moduleOf f) g)
-  pub lasts : 8 < k → Passes (lastStage f (moduleOf f))
+-- the stages with refusal k pass (2 and 3 have one stage, which stands at 3)
+abbrev pub PassedAt : Bytes → ℕ → Type 0
+PassedAt f zero = Unit {0}
+PassedAt f (suc zero) = Passes (lengthStage f)
+PassedAt f (suc (suc zero)) = Unit {0}
+PassedAt f (suc (suc (suc zero))) = Passes (blockStage f)
+PassedAt f (suc (suc (suc (suc zero)))) = Passes (recordStage f)
+PassedAt f (suc (suc (suc (suc (suc zero))))) = Passes (termStage (moduleOf f)) × Passes (structStage (moduleOf f))
+PassedAt f (suc (suc (suc (suc (suc (suc zero)))))) = Passes (functionStage f (moduleOf f))
+PassedAt f (suc (suc (suc (suc (suc (suc (suc zero))))))) = (g : ℕ) → g < moduleOf f .functions → Passes (instructionStage f (moduleOf f) g)
+PassedAt f (suc (suc (suc (suc (suc (suc (suc (suc k)))))))) = Passes (lastStage f (moduleOf f))
+
+-- those below k pass
+abbrev pub Passed : Bytes → ℕ → Type 0
+Passed f k = (c : ℕ) → c < k → PassedAt f c
+
+none-passed : (f : Bytes) → Passed f 1
+none-passed f c h = let e : c ≡ 0 = omega arith in subst (PassedAt f) (sym e) tt
+
+-- one number more
+grow : (f : Bytes) (k : ℕ) → Passed f k → PassedAt f k → Passed f (suc k)
+grow f k a b c h = go (ℕ-discrete c k)
+  where
+    go : Dec (c ≡ k) → PassedAt f c
+    go (yes e) = subst (PassedAt f) (sym e) b
+    go (no e) = a c (omega arith)
 
 -- where the first failure is
 pub data Where (f : Bytes) (n p : ℕ) : Type 0 where
@@ -62,97 +75,38 @@ pub data Where (f : Bytes) (n p : ℕ) : Type 0 where
   instruction : Passed f 7 → FirstOf (instructionStage f (moduleOf f)) 0 (moduleOf f .functions) n p → Where f n p
   last : Passed f 8 → Fails (lastStage f (moduleOf f)) n p → Where f n p
 
-where-first : (f : Bytes) (n p : ℕ) → FirstIn (stages f) n p → Where f n p
-unfolding moduleStages
-where-first f n p (here h) = fileLength (record {
-  fileLength = λ l. absurd (omega arith);
-  blocks = λ l. absurd (omega arith);
-  records = λ l. absurd (omega arith);
-  terms = λ l. absurd (omega arith);
-  structs = λ l. absurd (omega arith);
-  functions = λ l. absurd (omega arith);
-  instructions = λ l. absurd (omega arith);
-  lasts = λ l. absurd (omega arith);
-}) h
-where-first f n p (later a (here h)) = block (record {
-  fileLength = λ l. a;
-  blocks = λ l. absurd (omega arith);
-  records = λ l. absurd (omega arith);
-  terms = λ l. absurd (omega arith);
-  structs = λ l. absurd (omega arith);
-  functions = λ l. absurd (omega arith);
-  instructions = λ l. absurd (omega arith);
-  lasts = λ l. absurd (omega arith);
-}) h
-where-first f n p (later a (later b (here h))) = record-at (record {
-  fileLength = λ l. a;
-  blocks = λ l. b;
-  records = λ l. absurd (omega arith);
-  terms = λ l. absurd (omega arith);
-  structs = λ l. absurd (omega arith);
-  functions = λ l. absurd (omega arith);
-  instructions = λ l. absurd (omega arith);
-  lasts = λ l. absurd (omega arith);
-}) h
-where-first f n p (later a (later b (later c (here h)))) = term (record {
-  fileLength = λ l. a;
-  blocks = λ l. b;
-  records = λ l. c;
-  terms = λ l. absurd (omega arith);
-  structs = λ l. absurd (omega arith);
-  functions = λ l. absurd (omega arith);
-  instructions = λ l. absurd (omega arith);
-  lasts = λ l. absurd (omega arith);
-}) h
-where-first f n p (later a (later b (later c (later d (here h))))) = struct (record {
-  fileLength = λ l. a;
-  blocks = λ l. b;
-  records = λ l. c;
-  terms = λ l. d;
-  structs = λ l. absurd (omega arith);
-  functions = λ l. absurd (omega arith);
-  instructions = λ l. absurd (omega arith);
-  lasts = λ l. absurd (omega arith);
-}) d h
-where-first f n p (later a (later b (later c (later d (later e (here h)))))) = function (record {
-  fileLength = λ l. a;
-  blocks = λ l. b;
-  records = λ l. c;
-  terms = λ l. d;
-  structs = λ l. e;
-  functions = λ l. absurd (omega arith);
-  instructions = λ l. absurd (omega arith);
-  lasts = λ l. absurd (omega arith);
-}) h
-where-first f n p (later a (later b (later c (later d (later e (later k h)))))) =
-    go (in-append (listOf (instructionStage f (moduleOf f)) (moduleOf f .functions)) (lastStage f (moduleOf f) ∷ []) n p h)
-  where
-    go : FirstIn (listOf (instructionStage f (moduleOf f)) (moduleOf f .functions)) n p
-        ⊎ (AllPass (listOf (instructionStage f (moduleOf f)) (moduleOf f .functions)) × FirstIn (lastStage f (moduleOf f) ∷ []) n p) → Where f n p
-    go (inl h) = instruction (record {
-      fileLength = λ l. a;
-      blocks = λ l. b;
-      records = λ l. c;
-      terms = λ l. d;
-      structs = λ l. e;
-      functions = λ l. k;
-      instructions = λ l. absurd (omega arith);
-      lasts = λ l. absurd (omega arith);
-    }) (in-list (instructionStage f (moduleOf f)) 0 (moduleOf f .functions) n p h)
-    go (inr h) = at (h .1)
-      where
-        at : FirstIn (lastStage f (moduleOf f) ∷ []) n p → Where f n p
-        at (here l) = last (record {
-          fileLength = λ l. a;
-          blocks = λ l. b;
-          records = λ l. c;
-          terms = λ l. d;
-          structs = λ l. e;
-          functions = λ l. k;
-          instructions = λ l g m. pass-each (instructionStage f (moduleOf f)) 0 (moduleOf f .functions) (h .0) g (omega arith) (omega arith);
-          lasts = λ l. absurd (omega arith);
-        }) l
-        at (later l r) = elim r [ ]
+module _ (f : Bytes) where
+  passed-4 : Passes (lengthStage f) → Passes (blockStage f) → Passed f 4
+  passed-4 a b = grow f 3 (grow f 2 (grow f 1 (none-passed f) a) tt) b
+
+  passed-5 : Passes (lengthStage f) → Passes (blockStage f) → Passes (recordStage f) → Passed f 5
+  passed-5 a b c = grow f 4 (passed-4 a b) c
+
+  passed-8 : Passed f 7 → AllPass (listOf (instructionStage f (moduleOf f)) (moduleOf f .functions)) → Passed f 8
+  passed-8 a b = grow f 7 a (λ g h. pass-each (instructionStage f (moduleOf f)) 0 (moduleOf f .functions) b g (omega arith) (omega arith))
+
+  where-first : (n p : ℕ) → FirstIn (stages f) n p → Where f n p
+  unfolding moduleStages
+  where-first n p (here h) = fileLength (none-passed f) h
+  where-first n p (later a (here h)) = block (grow f 1 (none-passed f) a) h
+  where-first n p (later a (later b (here h))) = record-at (passed-4 a b) h
+  where-first n p (later a (later b (later c (here h)))) = term (passed-5 a b c) h
+  where-first n p (later a (later b (later c (later d (here h))))) = struct (passed-5 a b c) d h
+  where-first n p (later a (later b (later c (later d (later e (here h)))))) = function (grow f 5 (passed-5 a b c) (d, e)) h
+  where-first n p (later a (later b (later c (later d (later e (later k h)))))) =
+      go (in-append (listOf (instructionStage f (moduleOf f)) (moduleOf f .functions)) (lastStage f (moduleOf f) ∷ []) n p h)
+    where
+      before : Passed f 7
+      before = grow f 6 (grow f 5 (passed-5 a b c) (d, e)) k
+
+      at : AllPass (listOf (instructionStage f (moduleOf f)) (moduleOf f .functions)) → FirstIn (lastStage f (moduleOf f) ∷ []) n p → Where f n p
+      at l (here h) = last (passed-8 before l) h
+      at l (later q h) = elim h [ ]
+
+      go : FirstIn (listOf (instructionStage f (moduleOf f)) (moduleOf f .functions)) n p
+          ⊎ (AllPass (listOf (instructionStage f (moduleOf f)) (moduleOf f .functions)) × FirstIn (lastStage f (moduleOf f) ∷ []) n p) → Where f n p
+      go (inl h) = instruction before (in-list (instructionStage f (moduleOf f)) 0 (moduleOf f .functions) n p h)
+      go (inr h) = at (h .0) (h .1)
 
 pub where-refused : (f : Bytes) (n p : ℕ) → verdictOf f ≡ Refused n p → Where f n p
 where-refused f n p e = where-first f n p (first-failure f n p e)
@@ -213,17 +167,17 @@ function-test f g e = does-true (decBoth (decFunction (moduleOf f .function g)) 
 
 pub not-lower : (f : Bytes) (k : ℕ) → Passed f k → {m q : ℕ} → Broken f m q → (m ≡ 2 → 3 < k) → m < k → ⊥
 unfolding termTest structTest instructionTest instructionStage lastTest
-not-lower f k a (Broken.fileLength e) b h = false≢true (sym e ∙ a .fileLength h 0 (omega arith))
-not-lower f k a (Broken.place i l e) b h = false≢true (sym e ∙ (sym (even-test f i) ∙ a .blocks (b refl) (2 * i) (omega arith)))
-not-lower f k a (Broken.check i l e) b h = false≢true (sym e ∙ (sym (odd-test f i) ∙ a .blocks h (2 * i + 1) (omega arith)))
-not-lower f k a (Broken.fault r l e) b h = false≢true (sym e ∙ a .records h r (omega arith))
-not-lower f k a (Broken.term t l e) b h = e (does-true (decTerm (moduleOf f) (moduleOf f .term t)) (a .terms h t l))
-not-lower f k a (Broken.struct N l e) b h = e (does-true (decStruct (moduleOf f) N) (a .structs h N l))
-not-lower f k a (Broken.function g l e) b h = e (function-test f g (a .functions h g l) .0)
-not-lower f k a (Broken.entry l e) b h = e (function-test f 0 (a .functions h 0 l) .1 refl)
+not-lower f k a (Broken.fileLength e) b h = false≢true (sym e ∙ a 1 h 0 (omega arith))
+not-lower f k a (Broken.place i l e) b h = false≢true (sym e ∙ (sym (even-test f i) ∙ a 3 (b refl) (2 * i) (omega arith)))
+not-lower f k a (Broken.check i l e) b h = false≢true (sym e ∙ (sym (odd-test f i) ∙ a 3 h (2 * i + 1) (omega arith)))
+not-lower f k a (Broken.fault r l e) b h = false≢true (sym e ∙ a 4 h r (omega arith))
+not-lower f k a (Broken.term t l e) b h = e (does-true (decTerm (moduleOf f) (moduleOf f .term t)) (a 5 h .0 t l))
+not-lower f k a (Broken.struct N l e) b h = e (does-true (decStruct (moduleOf f) N) (a 5 h .1 N l))
+not-lower f k a (Broken.function g l e) b h = e (function-test f g (a 6 h g l) .0)
+not-lower f k a (Broken.entry l e) b h = e (function-test f 0 (a 6 h 0 l) .1 refl)
 not-lower f k a (Broken.instruction g i l j e) b h =
-    e (does-true (decTyped (moduleOf f) (moduleOf f .function g) (moduleOf f .function g .code i)) (a .instructions h g l i j))
-not-lower f k a (Broken.last g l e) b h = e (does-true (decLast (moduleOf f .function g .code (moduleOf f .function g .length - 1))) (a .lasts h g l))
+    e (does-true (decTyped (moduleOf f) (moduleOf f .function g) (moduleOf f .function g .code i)) (a 7 h g l i j))
+not-lower f k a (Broken.last g l e) b h = e (does-true (decLast (moduleOf f .function g .code (moduleOf f .function g .length - 1))) (a 8 h g l))
 
 pub broken-number : {f : Bytes} {m q : ℕ} → Broken f m q → (1 ≤ m) × (m ≤ 8)
 broken-number (Broken.fileLength e) = (omega arith, omega arith)
@@ -244,13 +198,6 @@ accepted-whole f n p a b =
     let all = no-failure f a in
     let d = all .1 .1 .1 in
     let e = pass-append (listOf (instructionStage f (moduleOf f)) (moduleOf f .functions)) (lastStage f (moduleOf f) ∷ []) (d .1 .1 .1) in
-    not-lower f 9 (record {
-      fileLength = λ l. all .0;
-      blocks = λ l. all .1 .0;
-      records = λ l. all .1 .1 .0;
-      terms = λ l. d .0;
-      structs = λ l. d .1 .0;
-      functions = λ l. d .1 .1 .0;
-      instructions = λ l g m. pass-each (instructionStage f (moduleOf f)) 0 (moduleOf f .functions) (e .0) g (omega arith) (omega arith);
-      lasts = λ l. e .1 .0;
-    }) b (λ q. omega arith) (omega (arith, broken-number b))
+    not-lower f 9
+    (grow f 8 (passed-8 f (grow f 6 (grow f 5 (passed-5 f (all .0) (all .1 .0) (all .1 .1 .0)) (d .0, d .1 .0)) (d .1 .1 .0)) (e .0)) (e .1 .0))
+    b (λ q. omega arith) (omega (arith, broken-number b))

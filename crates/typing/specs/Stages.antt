@@ -1,17 +1,15 @@
 -- Laws of stages: an accepting verdict has no failing test, and a refusal is the first failing test of the first stage that
 -- has one. Assumes nothing.
 use mathlib.Core.Path.{_≡_, refl, sym, ap, _∙_, subst}
-use mathlib.Core.Bool.{Bool, true, false, cond, false≢true}
+use mathlib.Core.Bool.{Bool, true, false, cond}
 use mathlib.Core.Logic.{_⊎_, inl, inr}
 use mathlib.Core.List.{List, [], _∷_, _++_}
 use Prim.Native.Nat.{ℕ, zero, suc, _+_, _<_, _≤_}
-use native.Mathlib.Nat.{not-suc-le-zero}
 use native.Mathlib.Decide.{ℕ-discrete}
 use native.Mathlib.Omega.{arith}
 use lib.Dec.{ltb}
 use borrow.Author.Tests.{ltb-true, ltb-false, le-ltb}
 use Rattle.words.specs.Bytes.{listFrom}
-use Rattle.words.specs.First.{first}
 use Rattle.words.specs.FirstLaws.{first-before, first-fails, first-none}
 use Rattle.rules.specs.Stages.{Stage, failure, refusal, verdict}
 use Rattle.rules.specs.Claim.{IsAccepted}

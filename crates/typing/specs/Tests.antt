@@ -1,5 +1,5 @@
 -- What a conjunction of tests says of its parts, and what a test that carries its meaning says. Assumes nothing.
-use mathlib.Core.Path.{_≡_, refl, sym}
+use mathlib.Core.Path.{_≡_, refl}
 use mathlib.Core.Bool.{Bool, true, false, _&&_, false≢true}
 use Rattle.rules.specs.Decide.{does}
 

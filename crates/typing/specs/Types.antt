@@ -4,29 +4,29 @@ use mathlib.Core.Path.{_≡_, refl, sym, _∙_, subst}
 use mathlib.Core.Bool.{Bool, true, false, cond, _||_, false≢true}
 use mathlib.Core.Logic.{_⊎_, inl, inr}
 use mathlib.Core.List.{List, [], _∷_, _++_}
-use Prim.Native.Nat.{ℕ, zero, suc, _+_, _/_, _%_, _<_, _≤_}
+use Prim.Native.Nat.{ℕ, zero, suc, _+_, _<_, _≤_}
 use native.Mathlib.Decide.{ℕ-discrete, decLt}
 use native.Mathlib.Omega.{arith}
 use lib.Dec.{eqb, leb}
 use lib.ListN.{length, getD, length-append}
 use borrow.Author.Tests.{eqb-true, leb-true}
 use Rattle.words.specs.Bytes.{Bytes, listFrom}
-use Rattle.rules.specs.Limits.{sizeLimit, mostEntries}
+use Rattle.rules.specs.Limits.{sizeLimit}
 use Rattle.rules.specs.Decide.{Each, none, more}
-use Rattle.rules.specs.File.{recordOf, entryOf, returnOf, kindInteger, kindPointer, kindArray}
-use Rattle.rules.specs.Types.{variable, Variable, region, Tree, int, ptr, arr, struct, Primitive, integer, pointer, width}
+use Rattle.rules.specs.File.{recordOf, entryOf, kindInteger, kindPointer, kindArray}
+use Rattle.rules.specs.Types.{variable, Variable, region, Tree, int, ptr, arr, struct, Primitive, width}
 use Rattle.rules.specs.Module.{Module, Function}
-use Rattle.rules.specs.Flat.{flat, flatWith, size}
+use Rattle.rules.specs.Flat.{flat, flatWith}
 use Rattle.rules.specs.Walk.{whole}
 use Rattle.rules.specs.Decode.{noTree, regionBytes, treeOf, treesOf, fieldsOf, structStart, functionOf, moduleOf}
-use Rattle.rules.specs.WellTyped.{TermOk, WellTyped}
+use Rattle.rules.specs.WellTyped.{TermOk}
 use Rattle.rules.specs.Verdict.{verdictOf}
 use Rattle.rules.specs.Claim.{IsAccepted}
 use Rattle.rules.specs.declared.Record.{Record}
 use Rattle.typing.specs.Tests.{left, right}
 use Rattle.typing.specs.Lists.{getD-left, getD-last, getD-past, length-listFrom}
 use Rattle.typing.specs.Walk.{Fits, TermRecord, good}
-use Rattle.typing.specs.Accepted.{Framed, framed, records-fit, accepted}
+use Rattle.typing.specs.Accepted.{framed, records-fit, accepted}
 
 -- "integer of a = 1, 2 or 4 bytes"
 abbrev pub Width : ℕ → Type 0

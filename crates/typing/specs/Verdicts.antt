@@ -1,13 +1,12 @@
 -- The verdict is neither always a refusal nor always the same. Assumes nothing.
-use mathlib.Core.Path.{_≡_, refl, sym, _∙_, subst}
-use mathlib.Core.List.{List, [], _∷_}
-use Prim.Native.Nat.{ℕ}
+use mathlib.Core.Path.{_≡_, sym, _∙_, subst}
+use mathlib.Core.List.{[]}
 use Rattle.words.specs.Bytes.{Bytes}
 use Rattle.rules.specs.Verdict.{verdictOf}
 use Rattle.rules.specs.Claim.{IsAccepted}
 use Rattle.rules.specs.CasesFile.{worked, agrees}
 use Rattle.rules.specs.declared.Verdict.{Verdict}
-use Rattle.rules.specs.declared.Verdict.the-variants.{Accepted, Refused}
+use Rattle.rules.specs.declared.Verdict.the-variants.{Refused}
 
 -- document 01's worked file is accepted
 pub some-accepted : IsAccepted (verdictOf worked)

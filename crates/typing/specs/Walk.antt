@@ -2,21 +2,20 @@
 -- instructions are, and which ranges they have. Assumes nothing but that each record fits (`Fits`), where it says so.
 use mathlib.Core.Path.{_≡_, refl, sym, ap, _∙_, subst}
 use mathlib.Core.Bool.{Bool, true, false, cond, _&&_, _||_, false≢true}
-use mathlib.Core.Logic.{_⊎_, inl, inr}
-use mathlib.Core.List.{List, [], _∷_, _++_}
-use Prim.Native.Nat.{ℕ, zero, suc, _+_, _-_, _*_, _/_, _%_, _<_, _≤_}
+use mathlib.Core.List.{[], _∷_, _++_}
+use Prim.Native.Nat.{ℕ, zero, suc, _+_, _-_, _*_, _/_, _<_, _≤_}
 use native.Mathlib.Nat.{not-suc-le-zero}
-use native.Mathlib.Decide.{ℕ-discrete, decLt}
+use native.Mathlib.Decide.{ℕ-discrete}
 use native.Mathlib.Omega.{arith}
 use lib.Dec.{ltb, leb, eqb}
 use lib.ListN.{length, getD, length-append}
-use borrow.Author.Tests.{ltb-true, leb-true, eqb-true, lt-ltb, le-ltb, ltb-false, leb-false}
+use borrow.Author.Tests.{ltb-true, leb-true, eqb-true, lt-ltb, le-ltb, leb-false}
 use Rattle.words.specs.Bytes.{Bytes}
 use Rattle.rules.specs.Limits.{mostTerms, mostStructs, mostFunctions, mostRegions, mostRegionParams, mostEntries, mostRegisters, mostInstructions, sizeLimit}
 use Rattle.rules.specs.File.{records, recordOf, regionsOf, returnOf, parametersOf, instructionsOf, within, isTerm, isInstruction, kindFiller, kindInteger, kindPointer, kindArray, kindStruct, kindName, kindFields, kindFunction, kindRegions, kindRegisters, kindCall, kindArguments}
-use Rattle.rules.specs.Walk.{to, start, toCode, toRegisters, headed, opened, toTerm, named, done, called, toFunction, toName, step, next, Scan, nextScan, scan, whole}
+use Rattle.rules.specs.Walk.{to, toCode, toRegisters, headed, opened, toTerm, named, done, called, toFunction, toName, step, next, Scan, nextScan, scan, whole}
 use Rattle.rules.specs.Records.{integerFits, pointerFits, arrayFits, structFits, termFits, nameFits, headRanges, functionFits, listFits, seven, isFiller, instructionFits, argumentsFit, fitsIn, fits, endFits, recordTestWith, recordTest}
-use Rattle.rules.specs.Decode.{registersAt, codeAt, after, places, codePlaces, structStart}
+use Rattle.rules.specs.Decode.{registersAt, codeAt, after, places, structStart}
 use Rattle.rules.specs.declared.Record.{Record}
 use Rattle.rules.specs.declared.Walk.{Walk}
 use Rattle.rules.specs.declared.Phase.{Phase}
@@ -267,7 +266,7 @@ module _ (f : Bytes) (t : Scan) (w : Walk) (r : ℕ) where
     where
       go : (z : Bool) → leb (w .left) mostEntries ≡ z → Kept f w (cond z (toCode w) (to w Registers (w .left - mostEntries))) (suc r)
       go true q = to-code f w h (suc r)
-          (let n : (recordOf f (w .head) .c + 6) / 7 ≡ suc k = omega (arith, leb-true (w .left) mostEntries q, h .registers) in
+          (let n : (recordOf f (w .head) .c + (mostEntries - 1)) / mostEntries ≡ suc k = omega (arith, leb-true (w .left) mostEntries q, h .registers) in
           omega arith)
       go false q = record {
         terms = refl;
@@ -349,9 +348,6 @@ good-next : (f : Bytes) (t s : Scan) (r : ℕ) → Good f s r → Next f t (s .w
 unfolding nextScan
 good-next f t s r g n = go (next (s .walk) (recordOf f r) r) (n .tables) (n .place)
   where
-    w : Walk
-    w = s .walk
-
     -- no function is opened
     stays : (v : Walk) → Place f v (suc r) (v .phase) → v .terms ≤ mostTerms → v .names ≤ mostStructs
         → ((i : ℕ) → i < v .terms → TermRecord (recordOf f i)) → ((N : ℕ) → N < v .names → 1 ≤ recordOf f (structStart (v .terms) N) .b)
@@ -385,9 +381,6 @@ good-next f t s r g n = go (next (s .walk) (recordOf f r) r) (n .tables) (n .pla
     go v (name et en e d at fit) p = stays v p (omega (arith, g .terms)) (omega (arith, ltb-true (s .walk .names) mostStructs room))
         (λ i h. g .termRecords i (omega arith)) (λ N h. rw et (new-name N h (ℕ-discrete N (s .walk .names)))) e d
       where
-        x : Record
-        x = recordOf f r
-
         room : ltb (s .walk .names) mostStructs ≡ true
         room = unfold nameFits in left (ltb (s .walk .names) mostStructs) (eqb (recordOf f r .kind) kindName)
             (left (ltb (s .walk .names) mostStructs && eqb (recordOf f r .kind) kindName) _ fit)
