@@ -174,3 +174,19 @@ fair f g (suc t) = fair-from t (recordOf f t) (g (recordStart t + 1)) (g (record
 -- the same of a head that is known
 pub fair-at : (p : ℕ) (g h : Head) → Fair p g → g ≡ h → Fair p h
 fair-at p g h w e = subst (Fair p) e w
+
+-- its regions are as wide as they are written
+abbrev pub Narrow : Head → Type 0
+Narrow (Int w) = Unit {0}
+Narrow (Ptr a r) = r < 256
+Narrow (Arr n a) = Unit {0}
+Narrow (Struct N n d) = d < 4294967296
+
+pub fair-narrow : (p : ℕ) (h : Head) → Fair p h → Narrow h
+fair-narrow p (Int w) e = tt
+fair-narrow p (Ptr a r) e = e .1
+fair-narrow p (Arr n a) e = tt
+fair-narrow p (Struct N n d) e = e .2
+
+pub narrow-at : (g h : Head) → Narrow g → g ≡ h → Narrow h
+narrow-at g h w e = subst Narrow e w

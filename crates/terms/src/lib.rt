@@ -3,16 +3,21 @@
 // number, and place 0 is what is not there: so the places inside a term are lower, and a walk along a term ends.
 ghost use mathlib.Core.Path.{_≡_};
 ghost use mathlib.Core.Bool.{Bool};
-ghost use Prim.Native.Nat.{suc, max, _+_, _*_, _<_, _≤_};
+ghost use Prim.Native.Nat.{ℕ, suc, max, _+_, _*_, _<_, _≤_};
 ghost use lib.ListN.{length, getD};
 ghost use lib.Dec.{eqb};
 ghost use Rattle.words.specs.First.{allBelow};
 ghost use Rattle.rules.specs.File.{recordOf, byteOfD, entryOf};
 ghost use Rattle.rules.specs.Decode.{moduleOf};
 ghost use Rattle.rules.specs.Flat.{flat, structFlat};
-ghost use Rattle.terms.specs.Heads.{digit, placeOf, headFrom, headOf, formNo, mainNo, innerNo, regionNo, argsNo, wordNo};
-ghost use Rattle.terms.specs.HeadLaws.{Fair};
+ghost use Rattle.rules.specs.Decide.{does};
+ghost use Rattle.rules.specs.Types.{variable, live, int, sub, form, numberOf, regionOf, args, decTree, decUses, decPrimitive};
+ghost use Rattle.terms.specs.Heads.{digit, argsOf, placeOf, headFrom, headOf, formNo, mainNo, innerNo, regionNo, argsNo, wordNo};
+ghost use Rattle.terms.specs.HeadLaws.{Fair, Narrow};
 ghost use Rattle.terms.specs.Extents.{Terms, Counted, cap, extentOf, over, plus, times, Small, termExtent, structExtent};
+ghost use Rattle.terms.specs.Compare.{byteUnder, under, argsSame, headsSame, placesSame, Identity};
+ghost use Rattle.terms.specs.Bounds.{bound, boundOf, headBound};
+ghost use Rattle.terms.specs.Readers.{Reads, Inner};
 use rules::Record;
 use words::byte;
 use words::word;
@@ -34,6 +39,12 @@ pub struct Extent {
     pub size: usize,
     pub count: usize,
 }
+
+// A region variable as it is written in the code, and a live region of the machine. Only a region map, as it lies in the state,
+// leads from one to the other.
+pub struct Variable(pub u8);
+
+pub struct Live(pub u8);
 
 // ---- records
 
@@ -306,4 +317,238 @@ pub fn extent_of_struct(f: &[u8], n: usize, k: usize, number: usize) -> Extent
     } else {
         over()
     }
+}
+
+// ---- terms under substitutions
+
+// The region that stands for variable v: 255, nowhere, where the substitution has none.
+fn region(to: &[u8], v: usize) -> usize
+    ensures { λ r. ⌜ r ≡ byteUnder (now (to .entry)) v ⌝ }
+{
+    if v < to.len() { wide(to[v]) } else { 255 }
+}
+
+// The live region that a region map has for a variable.
+pub fn live_of(map: &[u8], v: Variable) -> Live
+    ensures { λ r. ⌜ r .0 ≡ byteUnder (now (map .entry)) (v .0) ⌝ }
+{
+    let i = wide(v.0);
+    if i < map.len() {
+        Live(map[i])
+    } else {
+        Live(255)
+    }
+}
+
+// Whether the first n regions that d and e hold are the same, under p and under q.
+fn same_args(p: &[u8], d: usize, q: &[u8], e: usize, n: usize) -> bool
+    ensures { λ r. ⌜ r ≡ argsSame (now (p .entry)) d (now (q .entry)) e n ⌝ }
+{
+    let mut i = 0;
+    while i < n {
+        if region(p, digit(d, i)) != region(q, digit(e, i)) {
+            return false;
+        }
+        i += 1;
+    }
+    true
+}
+
+// Whether two heads are the same, but for what is inside.
+fn same_head(p: &[u8], x: Head, q: &[u8], y: Head) -> bool
+    ensures { λ r. ⌜ r ≡ headsSame (now (p .entry)) x (now (q .entry)) y ⌝ }
+{
+    let form = form_no(x);
+    let count = args_no(x);
+    ((form == form_no(y)) & (main_no(x) == main_no(y)))
+        & ((!(form == 2) | (region(p, region_no(x)) == region(q, region_no(y))))
+            & ((count == args_no(y)) & same_args(p, word_no(x), q, word_no(y), count)))
+}
+
+// Whether the terms at places a and b are equal, under p and under q: both chains are walked until nothing is inside.
+pub fn same_places(f: &[u8], a: usize, p: &[u8], b: usize, q: &[u8]) -> bool
+    ensures { λ r. ⌜ (r ≡ placesSame variable (now (f .entry)) a (now (p .entry)) b (now (q .entry))) × (r ≡ placesSame live (now (f .entry)) a (now (p .entry)) b (now (q .entry))) ⌝ }
+{
+    let mut i = a;
+    let mut j = b;
+    while (i > 0) | (j > 0) {
+        let x = head_of(f, i);
+        let y = head_of(f, j);
+        if same_head(p, x, q, y) {
+            i = inner_no(x);
+            j = inner_no(y);
+        } else {
+            return false;
+        }
+    }
+    true
+}
+
+// Whether terms a and b are equal, under p and under q.
+pub fn same(f: &[u8], n: usize, a: usize, p: &[u8], b: usize, q: &[u8]) -> bool
+    requires { ⌜ Terms (now f) n ⌝ }
+    ensures { λ r. do let m = moduleOf (now (f .entry)) in ⌜ (r ≡ does (decTree (sub (under {k = variable} (now (p .entry))) (m .term a)) (sub (under (now (q .entry))) (m .term b)))) × (r ≡ does (decTree (sub (under {k = live} (now (p .entry))) (m .term a)) (sub (under (now (q .entry))) (m .term b)))) ⌝ }
+{
+    same_places(f, place_of(n, a), p, place_of(n, b), q)
+}
+
+// The substitution that puts each region for itself.
+fn identity() -> [u8; 256]
+    ensures { λ r. ⌜ Identity r ⌝ }
+{
+    let mut r = [255u8; 256];
+    let mut i = 0;
+    while i < 256 {
+        r[i] = i as u8;
+        i += 1;
+    }
+    r
+}
+
+// Whether terms a and b are equal as they are written.
+pub fn equal(f: &[u8], n: usize, a: usize, b: usize) -> bool
+    requires { ⌜ Terms (now f) n ⌝ }
+    ensures { λ r. do let m = moduleOf (now (f .entry)) in ⌜ r ≡ does (decTree (m .term a) (m .term b)) ⌝ }
+{
+    let id = identity();
+    same(f, n, a, &id, b, &id)
+}
+
+// Whether term a, as it is written, is term b with the regions q put in: the types of a call.
+pub fn equal_under(f: &[u8], n: usize, a: usize, b: usize, q: &[u8]) -> bool
+    requires { ⌜ Terms (now f) n ⌝ }
+    ensures { λ r. do let m = moduleOf (now (f .entry)) in ⌜ r ≡ does (decTree (m .term a) (sub (under (now (q .entry))) (m .term b))) ⌝ }
+{
+    let id = identity();
+    same(f, n, a, &id, b, q)
+}
+
+// ---- regions used
+
+fn larger(a: usize, b: usize) -> usize
+    ensures { λ r. ⌜ r ≡ max a b ⌝ }
+{
+    if a < b { b } else { a }
+}
+
+// One more than the highest of the first n regions that d holds.
+fn args_bound(d: usize, n: usize) -> usize
+    requires { ⌜ d < 4294967296 ⌝ }
+    ensures { λ r. ⌜ r ≡ boundOf (argsOf d n) ⌝ }
+{
+    let mut best = 0;
+    let mut i = 0;
+    while i < n {
+        best = larger(best, digit(d, i) + 1);
+        i += 1;
+    }
+    best
+}
+
+fn head_bound(h: Head) -> usize
+    requires { ⌜ Narrow h ⌝ }
+    ensures { λ r. ⌜ r ≡ headBound h ⌝ }
+{
+    match h {
+        Head::Int(_) => 0,
+        Head::Ptr(_, r) => r + 1,
+        Head::Arr(_, _) => 0,
+        Head::Struct(_, n, d) => args_bound(d, n),
+    }
+}
+
+// One more than the highest region that term t uses, under pointers too: t uses only the regions below it.
+pub fn bound(f: &[u8], n: usize, t: usize) -> usize
+    requires { ⌜ Terms (now f) n ⌝ }
+    ensures { λ r. ⌜ r ≡ bound (moduleOf (now (f .entry)) .term t) ⌝ }
+{
+    let mut best = 0;
+    let mut i = place_of(n, t);
+    while i > 0 {
+        let x = head_of(f, i);
+        best = larger(best, head_bound(x));
+        i = inner_no(x);
+    }
+    best
+}
+
+// Whether term t uses only the regions below `most`.
+pub fn uses(f: &[u8], n: usize, t: usize, most: usize) -> bool
+    requires { ⌜ Terms (now f) n ⌝ }
+    ensures { λ r. ⌜ r ≡ does (decUses most (moduleOf (now (f .entry)) .term t)) ⌝ }
+{
+    bound(f, n, t) <= most
+}
+
+// ---- what a term is
+
+// The head of term t.
+pub fn head_term(f: &[u8], n: usize, t: usize) -> Head
+    requires { ⌜ Terms (now f) n ⌝ }
+    ensures { λ r. ⌜ Reads (now (f .entry)) n (moduleOf (now (f .entry)) .term t) r ⌝ }
+{
+    head_of(f, place_of(n, t))
+}
+
+// Its form: 1 integer, 2 pointer, 3 array, 4 struct.
+pub fn form(f: &[u8], n: usize, t: usize) -> usize
+    requires { ⌜ Terms (now f) n ⌝ }
+    ensures { λ r. ⌜ r ≡ form (moduleOf (now (f .entry)) .term t) ⌝ }
+{
+    form_no(head_term(f, n, t))
+}
+
+// Its width, the region of a pointer, the count of an array, the number of a struct.
+pub fn number(f: &[u8], n: usize, t: usize) -> usize
+    requires { ⌜ Terms (now f) n ⌝ }
+    ensures { λ r. ⌜ r ≡ numberOf (moduleOf (now (f .entry)) .term t) ⌝ }
+{
+    let x = head_term(f, n, t);
+    if form_no(x) == 2 {
+        region_no(x)
+    } else {
+        main_no(x)
+    }
+}
+
+// Whether it is a primitive.
+pub fn primitive(f: &[u8], n: usize, t: usize) -> bool
+    requires { ⌜ Terms (now f) n ⌝ }
+    ensures { λ r. ⌜ r ≡ does (decPrimitive (moduleOf (now (f .entry)) .term t)) ⌝ }
+{
+    form(f, n, t) <= 2
+}
+
+// Whether it is the integer of so many bytes.
+pub fn is_integer(f: &[u8], n: usize, t: usize, width: usize) -> bool
+    requires { ⌜ Terms (now f) n ⌝ }
+    ensures { λ r. ⌜ r ≡ does (decTree (moduleOf (now (f .entry)) .term t) (int width)) ⌝ }
+{
+    let x = head_term(f, n, t);
+    (form_no(x) == 1) & (main_no(x) == width)
+}
+
+// The term inside a pointer or an array, by number: n, which names nothing, where what is inside is not there.
+pub fn inner(f: &[u8], n: usize, t: usize) -> usize
+    requires { ⌜ Terms (now f) n ⌝ }
+    ensures { λ r. ⌜ Inner (now (f .entry)) (moduleOf (now (f .entry)) .term t) r ⌝ }
+{
+    let p = inner_no(head_term(f, n, t));
+    if p > 0 { p - 1 } else { n }
+}
+
+// The region that a pointer points into; nowhere of what is no pointer.
+pub fn target_region(f: &[u8], n: usize, t: usize) -> Variable
+    requires { ⌜ Terms (now f) n ⌝ }
+    ensures { λ r. ⌜ r .0 ≡ regionOf (moduleOf (now (f .entry)) .term t) .number ⌝ }
+{
+    Variable(region_no(head_term(f, n, t)) as u8)
+}
+
+// The number of region arguments of a struct term.
+pub fn arguments(f: &[u8], n: usize, t: usize) -> usize
+    requires { ⌜ Terms (now f) n ⌝ }
+    ensures { λ r. ⌜ r ≡ length (args (moduleOf (now (f .entry)) .term t)) ⌝ }
+{
+    args_no(head_term(f, n, t))
 }
