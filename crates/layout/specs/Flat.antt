@@ -1,25 +1,24 @@
 -- Laws of flat types: what `flat` gives for each form; primitives lie in order, apart and inside the size, start at 0 and cover
 -- every byte; sizes; flat types under substitution. What a law asks of the module stands in `TypesOk` and `GoodTree`.
-use mathlib.Core.Path.{_≡_, refl, sym, ap, ap₂, _∙_, subst}
+use mathlib.Core.Path.{_≡_, refl, sym, ap, _∙_, subst}
 use mathlib.Core.Logic.{_⊎_, inl, inr, ⊎-elim}
 use mathlib.Core.Bool.{cond}
 use mathlib.Core.List.{List, [], _∷_, _++_, map}
 use Prim.Native.Nat.{ℕ, zero, suc, _+_, _-_, _*_, _≤_, _<_}
-use native.Mathlib.Nat.{add-zero, zero-add, add-assoc, not-suc-le-zero, le-of-suc-le-suc, mul-le-mul-left, mul-le-mul-right, mul-pos}
-use native.Mathlib.Decide.{decLt}
+use native.Mathlib.Nat.{not-suc-le-zero, mul-pos}
 use native.Mathlib.Omega.{arith}
 use lib.Dec.{leb}
 use lib.ListN.{length, getD, length-map}
 use Rattle.words.specs.Choose.{cond-split, split-le, lt-or-le}
 use Rattle.rules.specs.Limits.{sizeLimit}
 use Rattle.rules.specs.Decide.{Each, none, more}
-use Rattle.rules.specs.Types.{RegionKind, variable, Region, Variable, Tree, int, ptr, arr, struct, width, sub, arg, Uses, in-int, in-ptr, in-arr, in-struct, Primitive, integer, pointer}
+use Rattle.rules.specs.Types.{RegionKind, variable, Region, Variable, Tree, int, ptr, arr, struct, width, sub, arg, Uses, in-arr, in-struct, Primitive, integer, pointer}
 use Rattle.rules.specs.Module.{Module}
-use Rattle.rules.specs.Flat.{Placed, at, off, type, Has, here, there, Layout, single, none as noLayout, empty, moved, packed, beside, copiesOf, copies, placedIn, subLayout, flatWith, fieldsWith, layouts, flat, structFlat, size, count, distance}
+use Rattle.rules.specs.Flat.{Placed, at, off, type, Has, here, there, Layout, single, none as noLayout, moved, packed, beside, copiesOf, copies, placedIn, subLayout, flatWith, fieldsWith, layouts, flat, structFlat, size, count, distance}
 use Rattle.layout.specs.TypesOk.{Width, one, two, four, GoodTree, good-int, good-ptr, good-arr, good-struct, TypesOk}
-use Rattle.layout.specs.Lists.{each-append, each-all, each-at, each-map, each-weaken, map-map, map-each, snoc-cases}
+use Rattle.layout.specs.Lists.{each-append, each-all, each-map, each-weaken, map-map, map-each, snoc-cases}
 use Rattle.layout.specs.Types.{sub-sub, sub-agree, sub-width, sub-prim, arg-map, arg-uses, uses-sub}
-use Rattle.layout.specs.Prims.{has-append-left, has-append-right, has-moved, has-placed, has-some, has-each, at-has, nth, size-copiesOf, beside-sized, copies-sized, size-copies, copies-fit, subLayout-copies, length-layouts, Ints, ints-all, Made, made-flat}
+use Rattle.layout.specs.Prims.{has-append-left, has-append-right, has-moved, has-placed, has-some, has-each, size-copiesOf, count-copiesOf, copies-sized, size-copies, copies-fit, subLayout-size, subLayout-copies, count-sub, length-layouts, Ints, ints-all, Made, made-flat}
 
 -- ---- by form
 
@@ -38,6 +37,10 @@ module _ {k : RegionKind} (m : Module) where
   flat-prim (ptr T r) p = refl
   flat-prim (arr n T) p = elim p [ ]
   flat-prim (struct N rs) p = elim p [ ]
+
+  -- a primitive is its own run
+  pub has-whole : (T : Tree k) → Primitive T → Has (flat m T .prims) 0 T
+  has-whole T p = subst (λ (L : Layout k). Has (L .prims) 0 T) (sym (flat-prim T p)) here
 
   pub size-prim : (T : Tree k) → Primitive T → size m T ≡ width T
   size-prim T p = ap (λ (L : Layout k). L .size) (flat-prim T p)
@@ -205,6 +208,45 @@ filled-made = record {
 pub filled : {k : RegionKind} (m : Module) (T : Tree k) → size m T ≤ sizeLimit → (i : ℕ) → i < size m T → Covered (flat m T .prims) i
 filled m T h = all-flat (λ k L. L .size ≤ sizeLimit → (i : ℕ) → i < L .size → Covered (L .prims) i) filled-made m T h
 
+-- what has a primitive has a size, or is one itself
+Small : {k : RegionKind} → Layout k → Type 0
+Small L = (L .size ≤ sizeLimit) ⊎ (count L ≡ 0)
+
+small-copies : {k : RegionKind} (n : ℕ) (L : Layout k) → Small (copies n L)
+unfolding Small copies
+small-copies n L =
+    split-le (λ M. (M .size ≤ sizeLimit) ⊎ (count M ≡ 0)) (n * L .size) sizeLimit (copiesOf n L) noLayout
+    (λ h. inl (omega (arith, size-copiesOf n L))) (λ _. inr refl)
+
+small-fields : (ls : List (Layout variable)) (Ts : List (Tree variable)) → Small (fieldsWith ls Ts)
+unfolding Small fieldsWith beside
+small-fields ls [] = inl (omega arith)
+small-fields ls (T ∷ Ts) =
+    split-le (λ M. (M .size ≤ sizeLimit) ⊎ (count M ≡ 0)) (flatWith ls T .size + fieldsWith ls Ts .size) sizeLimit (packed (flatWith ls T) (fieldsWith ls Ts)) noLayout
+    (λ h. inl h) (λ _. inr refl)
+
+small-layouts : (m : Module) (n N : ℕ) → Small (getD (layouts m n) N noLayout)
+unfolding Small layouts
+small-layouts m zero N = inr refl
+small-layouts m (suc n) N =
+    snoc-cases (λ _ M. (M .size ≤ sizeLimit) ⊎ (count M ≡ 0)) (layouts m n) (fieldsWith (layouts m n) (m .fields n)) noLayout (λ i _. small-layouts m n i)
+    (small-fields (layouts m n) (m .fields n)) (λ _ _. inr refl) N
+
+pub flat-small : {k : RegionKind} (m : Module) (T : Tree k) → 0 < count (flat m T) → (size m T ≤ sizeLimit) ⊎ Primitive T
+unfolding flat flatWith subLayout Small
+flat-small m (int w) h = inr integer
+flat-small m (ptr T r) h = inr pointer
+flat-small m (arr n T) h =
+    ⊎-elim (λ s. inl s) (λ z. absurd (omega arith)) (small-copies n (flatWith (layouts m (m .structs)) T))
+flat-small m (struct N rs) h =
+    ⊎-elim (λ s. inl s) (λ z. absurd (omega (arith, count-sub (arg rs) (getD (layouts m (m .structs)) N noLayout)))) (small-layouts m (m .structs) N)
+
+pub filled-some : {k : RegionKind} (m : Module) (T : Tree k) → 0 < count (flat m T) → (i : ℕ) → i < size m T → Covered (flat m T .prims) i
+filled-some m T h i l =
+    ⊎-elim (λ s. filled m T s i l)
+    (λ p. record { distance = 0; type = T; has = has-whole m T p; low = omega arith; high = omega (arith, size-prim m T p) })
+    (flat-small m T h)
+
 -- ---- widths: every primitive of a good type is an integer of 1, 2 or 4 bytes, or a pointer
 
 pub data Basic {k : RegionKind} : Tree k → Type 0 where
@@ -285,6 +327,13 @@ element-sized {k} m n T h = copies-fit n (flat m T) (subst (λ (L : Layout k). L
 pub size-arr : {k : RegionKind} (m : Module) (n : ℕ) (T : Tree k) → size m (arr n T) ≤ sizeLimit → size m (arr n T) ≡ n * size m T
 size-arr {k} m n T h =
     ap (λ (L : Layout k). L .size) (flat-arr m n T ∙ copies-sized n (flat m T) (element-sized m n T h)) ∙ size-copiesOf n (flat m T)
+
+pub count-arr : {k : RegionKind} (m : Module) (n : ℕ) (T : Tree k) → size m (arr n T) ≤ sizeLimit → count (flat m (arr n T)) ≡ n * count (flat m T)
+count-arr {k} m n T h =
+    ap (λ (L : Layout k). count L) (flat-arr m n T ∙ copies-sized n (flat m T) (element-sized m n T h)) ∙ count-copiesOf n (flat m T)
+
+pub size-struct : {k : RegionKind} (m : Module) (N : ℕ) (rs : List (Region k)) → size m (struct N rs) ≡ structFlat m N .size
+size-struct {k} m N rs = ap (λ (L : Layout k). L .size) (flat-struct m N rs) ∙ subLayout-size (arg rs) (structFlat m N)
 
 module _ {j k : RegionKind} (σ : Region j → Region k) where
   with-size-sub : (ls : List (Layout variable)) (T : Tree j) → flatWith ls (sub σ T) .size ≡ flatWith ls T .size
@@ -412,3 +461,6 @@ module _ (m : Module) where
     pub flat-sub : {j k : RegionKind} (σ : Region j → Region k) (T : Tree j) → GoodTree m T → flat m (sub σ T) ≡ subLayout σ (flat m T)
     unfolding flat
     flat-sub σ T g = with-sub (layouts m (m .structs)) (uses-layouts (m .structs) (omega arith)) σ T g
+
+    pub count-flat-sub : {j k : RegionKind} (σ : Region j → Region k) (T : Tree j) → GoodTree m T → count (flat m (sub σ T)) ≡ count (flat m T)
+    count-flat-sub {j} {k} σ T g = ap (λ (L : Layout k). count L) (flat-sub σ T g) ∙ count-sub σ (flat m T)

@@ -1,19 +1,19 @@
 -- Laws of lists of primitives and of the operations that make a layout: members, moving and substitution; and the principle by
 -- which a fact goes through every flat type (`made-flat`). Assumes nothing.
-use mathlib.Core.Path.{_≡_, refl, sym, ap, ap₂, _∙_, subst}
+use mathlib.Core.Path.{_≡_, refl, sym, ap, _∙_}
 use mathlib.Core.Bool.{cond}
 use mathlib.Core.List.{List, [], _∷_, _++_, map}
 use Prim.Native.Nat.{ℕ, zero, suc, _+_, _*_, _≤_, _<_}
-use native.Mathlib.Nat.{add-assoc, zero-add, suc-mul, zero-mul, not-suc-le-zero, le-of-suc-le-suc}
+use native.Mathlib.Nat.{add-assoc, zero-add, not-suc-le-zero, le-of-suc-le-suc}
 use native.Mathlib.Omega.{arith}
 use lib.Dec.{leb}
 use lib.ListN.{length, getD, take, drop, length-append, length-map}
 use Rattle.words.specs.Choose.{cond-split, cond-ap, cond-le, cond-nle, split-le}
 use Rattle.rules.specs.Limits.{sizeLimit}
 use Rattle.rules.specs.Decide.{Each, none, more}
-use Rattle.rules.specs.Types.{RegionKind, variable, Region, Variable, Tree, int, ptr, arr, struct, sub, arg}
+use Rattle.rules.specs.Types.{RegionKind, variable, Region, Tree, int, ptr, arr, struct, sub, arg}
 use Rattle.rules.specs.Module.{Module}
-use Rattle.rules.specs.Flat.{Placed, at, off, type, Has, here, there, Layout, single, none as noLayout, empty, moved, packed, beside, copiesOf, copies, placedIn, subLayout, flatWith, fieldsWith, layouts, flat, structFlat, size, count, distance}
+use Rattle.rules.specs.Flat.{Placed, at, off, type, Has, here, there, Layout, single, none as noLayout, empty, moved, packed, beside, copiesOf, copies, placedIn, subLayout, flatWith, fieldsWith, layouts, flat, size, count}
 use Rattle.layout.specs.Lists.{map-append, map-map, map-same, snoc-cases}
 
 -- ---- one primitive

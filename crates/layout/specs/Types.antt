@@ -1,13 +1,12 @@
 -- Laws of type terms: substitution (identity, composition, agreement, closing), what it keeps (form, width, primitives, regions
 -- used), good trees under it. Assumes nothing.
-use mathlib.Core.Path.{_≡_, refl, sym, ap, ap₂, _∙_}
+use mathlib.Core.Path.{_≡_, refl, ap, ap₂}
 use mathlib.Core.List.{List, [], _∷_, map}
-use Prim.Native.Nat.{ℕ, zero, suc, _<_, _≤_}
-use native.Mathlib.Nat.{not-suc-le-zero, le-of-suc-le-suc}
+use Prim.Native.Nat.{ℕ, _<_, _≤_}
 use native.Mathlib.Omega.{arith}
-use lib.ListN.{length, getD, length-map}
+use lib.ListN.{length}
 use Rattle.rules.specs.Decide.{Each}
-use Rattle.rules.specs.Types.{RegionKind, variable, live, Region, Variable, region, Tree, int, ptr, arr, struct, width, sub, arg, nowhere, form, numberOf, Uses, in-int, in-ptr, in-arr, in-struct, Primitive, integer, pointer}
+use Rattle.rules.specs.Types.{RegionKind, variable, Region, Variable, region, Tree, int, ptr, arr, struct, width, sub, arg, nowhere, form, Uses, in-int, in-ptr, in-arr, in-struct, Primitive, integer, pointer}
 use Rattle.rules.specs.Heap.{close}
 use Rattle.layout.specs.Lists.{each-at, each-map, each-weaken, map-map, map-each, getD-map}
 
@@ -73,6 +72,13 @@ module _ {j k : RegionKind} (σ : Region j → Region k) where
   sub-prim (ptr T r) p = pointer
   sub-prim (arr n T) p = elim p [ ]
   sub-prim (struct N rs) p = elim p [ ]
+
+  pub prim-sub : (T : Tree j) → Primitive (sub σ T) → Primitive T
+  unfolding sub
+  prim-sub (int w) p = integer
+  prim-sub (ptr T r) p = pointer
+  prim-sub (arr n T) p = elim p [ ]
+  prim-sub (struct N rs) p = elim p [ ]
 
 -- ---- regions used
 

@@ -7,7 +7,7 @@ use lib.ListN.{length}
 use Rattle.rules.specs.Limits.{sizeLimit}
 use Rattle.rules.specs.Decide.{Each}
 use Rattle.rules.specs.Types.{RegionKind, Region, Tree, int, ptr, arr, struct, Uses}
-use Rattle.rules.specs.Module.{Module, Function, regions}
+use Rattle.rules.specs.Module.{Module, regions}
 use Rattle.rules.specs.Flat.{size}
 
 -- "integer of a = 1, 2 or 4 bytes"
@@ -23,6 +23,13 @@ pub data GoodTree {k : RegionKind} (m : Module) : Tree k → Type 0 where
   good-ptr : {T : Tree k} {r : Region k} → GoodTree m T → GoodTree m (ptr T r)
   good-arr : {n : ℕ} {T : Tree k} → 0 < n → size m (arr n T) ≤ sizeLimit → GoodTree m T → GoodTree m (arr n T)
   good-struct : {N : ℕ} {rs : List (Region k)} → size m (struct N rs) ≤ sizeLimit → length rs ≡ m .arity N → GoodTree m (struct N rs)
+
+-- what a pointer points to, and an element
+pub good-target : {k : RegionKind} {m : Module} {T : Tree k} {r : Region k} → GoodTree m (ptr T r) → GoodTree m T
+good-target (good-ptr g) = g
+
+pub good-element : {k : RegionKind} {m : Module} {n : ℕ} {T : Tree k} → GoodTree m (arr n T) → GoodTree m T
+good-element (good-arr h s g) = g
 
 pub record TypesOk (m : Module) : Type 0 where
   -- the fields of each struct
