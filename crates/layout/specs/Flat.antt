@@ -14,7 +14,7 @@ use Rattle.rules.specs.Limits.{sizeLimit}
 use Rattle.rules.specs.Decide.{Each, none, more}
 use Rattle.rules.specs.Types.{RegionKind, variable, Region, Variable, Tree, int, ptr, arr, struct, width, sub, arg, Uses, in-arr, in-struct, Primitive, integer, pointer}
 use Rattle.rules.specs.Module.{Module}
-use Rattle.rules.specs.Flat.{Placed, at, off, type, Has, here, there, Layout, single, none as noLayout, moved, packed, beside, copiesOf, copies, placedIn, subLayout, flatWith, fieldsWith, layouts, flat, structFlat, size, count, distance}
+use Rattle.rules.specs.Flat.{Placed, at, off, type, Has, here, there, Layout, single, none as noLayout, moved, packed, beside, copiesOf, copies, placedIn, subLayout, flatWith, empty, fieldsFrom, fieldsWith, layouts, flat, structFlat, size, count, distance}
 use Rattle.layout.specs.TypesOk.{Width, one, two, four, GoodTree, good-int, good-ptr, good-arr, good-struct, TypesOk}
 use Rattle.layout.specs.Lists.{each-append, each-all, each-map, each-weaken, map-map, map-each, snoc-cases}
 use Rattle.layout.specs.Types.{sub-sub, sub-agree, sub-width, sub-prim, arg-map, arg-uses, uses-sub}
@@ -218,12 +218,19 @@ small-copies n L =
     split-le (λ M. (M .size ≤ sizeLimit) ⊎ (count M ≡ 0)) (n * L .size) sizeLimit (copiesOf n L) noLayout
     (λ h. inl (omega (arith, size-copiesOf n L))) (λ _. inr refl)
 
+small-beside : (L M : Layout variable) → Small (beside L M)
+unfolding Small beside
+small-beside L M =
+    split-le (λ N. (N .size ≤ sizeLimit) ⊎ (count N ≡ 0)) (L .size + M .size) sizeLimit (packed L M) noLayout (λ h. inl h) (λ _. inr refl)
+
+small-from : (ls : List (Layout variable)) (L : Layout variable) (Ts : List (Tree variable)) → Small L → Small (fieldsFrom ls L Ts)
+unfolding fieldsFrom
+small-from ls L [] h = h
+small-from ls L (T ∷ Ts) h = small-from ls (beside L (flatWith ls T)) Ts (small-beside L (flatWith ls T))
+
 small-fields : (ls : List (Layout variable)) (Ts : List (Tree variable)) → Small (fieldsWith ls Ts)
-unfolding Small fieldsWith beside
-small-fields ls [] = inl (omega arith)
-small-fields ls (T ∷ Ts) =
-    split-le (λ M. (M .size ≤ sizeLimit) ⊎ (count M ≡ 0)) (flatWith ls T .size + fieldsWith ls Ts .size) sizeLimit (packed (flatWith ls T) (fieldsWith ls Ts)) noLayout
-    (λ h. inl h) (λ _. inr refl)
+unfolding Small fieldsWith
+small-fields ls Ts = small-from ls empty Ts (inl (omega arith))
 
 small-layouts : (m : Module) (n N : ℕ) → Small (getD (layouts m n) N noLayout)
 unfolding Small layouts
@@ -369,13 +376,20 @@ module _ (m : Module) where
         rw (size-copies n (flatWith ls T)) (split-le (λ (x : ℕ). 0 < x) (n * flatWith ls T .size) sizeLimit (n * flatWith ls T .size) (suc sizeLimit) (λ _. mul-pos h p) (λ _. omega arith))
     pos-with (struct N rs) g = known N
 
+    pos-beside : (L M : Layout variable) → 0 < M .size → 0 < beside L M .size
+    unfolding beside
+    pos-beside L M p =
+        cond-split (λ (N : Layout variable). 0 < N .size) (leb (L .size + M .size) sizeLimit) (packed L M) noLayout (λ _. omega arith) (λ _. omega arith)
+
+    pos-from : (L : Layout variable) {Ts : List (Tree variable)} → 0 < L .size → Each (GoodTree m) Ts → 0 < fieldsFrom ls L Ts .size
+    unfolding fieldsFrom
+    pos-from L p none = p
+    pos-from L p (more {x = T} {xs = Ts} g u) = pos-from (beside L (flatWith ls T)) (pos-beside L (flatWith ls T) (pos-with T g)) u
+
     pos-fields : {Ts : List (Tree variable)} → 0 < length Ts → Each (GoodTree m) Ts → 0 < fieldsWith ls Ts .size
-    unfolding fieldsWith beside
+    unfolding fieldsWith fieldsFrom
     pos-fields h none = absurd (not-suc-le-zero h)
-    pos-fields h (more {x = T} {xs = Ts} g u) =
-        let p = pos-with T g in
-        cond-split (λ (L : Layout variable). 0 < L .size) (leb (flatWith ls T .size + fieldsWith ls Ts .size) sizeLimit) (packed (flatWith ls T) (fieldsWith ls Ts)) noLayout
-        (λ _. omega arith) (λ _. omega arith)
+    pos-fields h (more {x = T} {xs = Ts} g u) = pos-from (beside empty (flatWith ls T)) (pos-beside empty (flatWith ls T) (pos-with T g)) u
 
   module _ (ok : TypesOk m) where
     pos-layouts : (n : ℕ) → n ≤ m .structs → (N : ℕ) → 0 < getD (layouts m n) N noLayout .size
@@ -422,12 +436,22 @@ module _ (m : Module) where
     uses-with n (struct N rs) (good-struct s e) (in-struct u) =
         each-map (placedIn (arg rs)) (uses-placed (m .arity N) n (arg rs) (λ r h. arg-uses n rs r u (rw e h))) (known N)
 
+    uses-beside : (n : ℕ) (L M : Layout variable) → PrimsUse n (L .prims) → PrimsUse n (M .prims) → PrimsUse n (beside L M .prims)
+    unfolding beside
+    uses-beside n L M u v =
+        cond-split (λ (N : Layout variable). PrimsUse n (N .prims)) (leb (L .size + M .size) sizeLimit) (packed L M) noLayout
+        (λ _. each-append u (each-map (moved (L .size)) (uses-moved n (L .size)) v)) (λ _. none)
+
+    uses-from : (n : ℕ) (L : Layout variable) {Ts : List (Tree variable)} → PrimsUse n (L .prims) → Each (GoodTree m) Ts → Each (Uses n) Ts
+        → PrimsUse n (fieldsFrom ls L Ts .prims)
+    unfolding fieldsFrom
+    uses-from n L w none v = w
+    uses-from n L w (more {x = T} {xs = Ts} g u) (more h v) =
+        uses-from n (beside L (flatWith ls T)) (uses-beside n L (flatWith ls T) w (uses-with n T g h)) u v
+
     uses-fields : (n : ℕ) {Ts : List (Tree variable)} → Each (GoodTree m) Ts → Each (Uses n) Ts → PrimsUse n (fieldsWith ls Ts .prims)
-    unfolding fieldsWith beside
-    uses-fields n none v = none
-    uses-fields n (more {x = T} {xs = Ts} g u) (more h v) =
-        cond-split (λ (L : Layout variable). PrimsUse n (L .prims)) (leb (flatWith ls T .size + fieldsWith ls Ts .size) sizeLimit) (packed (flatWith ls T) (fieldsWith ls Ts)) noLayout
-        (λ _. each-append (uses-with n T g h) (each-map (moved (flatWith ls T .size)) (uses-moved n (flatWith ls T .size)) (uses-fields n u v))) (λ _. none)
+    unfolding fieldsWith
+    uses-fields n u v = uses-from n empty none u v
 
     -- the flat type of a substituted tree: the same distances, the primitives substituted
     with-sub : {j k : RegionKind} (σ : Region j → Region k) (T : Tree j) → GoodTree m T → flatWith ls (sub σ T) ≡ subLayout σ (flatWith ls T)

@@ -13,7 +13,7 @@ use Rattle.rules.specs.Limits.{sizeLimit}
 use Rattle.rules.specs.Decide.{Each, none, more}
 use Rattle.rules.specs.Types.{RegionKind, variable, Region, Tree, int, ptr, arr, struct, sub, arg}
 use Rattle.rules.specs.Module.{Module}
-use Rattle.rules.specs.Flat.{Placed, at, off, type, Has, here, there, Layout, single, none as noLayout, empty, moved, packed, beside, copiesOf, copies, placedIn, subLayout, flatWith, fieldsWith, layouts, flat, size, count}
+use Rattle.rules.specs.Flat.{Placed, at, off, type, Has, here, there, Layout, single, none as noLayout, empty, moved, packed, beside, copiesOf, copies, placedIn, subLayout, flatWith, fieldsFrom, fieldsWith, layouts, flat, size, count}
 use Rattle.layout.specs.Lists.{map-append, map-map, map-same, snoc-cases}
 
 -- ---- one primitive
@@ -234,10 +234,14 @@ module _ (I : ℕ → Type 0) (P : (k : RegionKind) → Layout k → Type 0) (c 
     made-with k (arr n T) i = made-copies k n (flatWith ls T) (made-with k T i)
     made-with k (struct N rs) i = c .onSub variable k (arg rs) (getD ls N noLayout) (known N)
 
+    made-from : (L : Layout variable) {Ts : List (Tree variable)} → P variable L → Each (Ints I) Ts → P variable (fieldsFrom ls L Ts)
+    unfolding fieldsFrom
+    made-from L p none = p
+    made-from L p (more {x = T} {xs = Ts} i u) = made-from (beside L (flatWith ls T)) (made-beside variable L (flatWith ls T) p (made-with variable T i)) u
+
     pub made-fields : {Ts : List (Tree variable)} → Each (Ints I) Ts → P variable (fieldsWith ls Ts)
     unfolding fieldsWith
-    made-fields none = c .onEmpty variable
-    made-fields (more {x = T} {xs = Ts} i u) = made-beside variable (flatWith ls T) (fieldsWith ls Ts) (made-with variable T i) (made-fields u)
+    made-fields u = made-from empty (c .onEmpty variable) u
 
   module _ (m : Module) (fields : (N : ℕ) → N < m .structs → Each (Ints I) (m .fields N)) where
     pub made-layouts : (n : ℕ) → n ≤ m .structs → (N : ℕ) → P variable (getD (layouts m n) N noLayout)

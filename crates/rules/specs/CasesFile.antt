@@ -2,14 +2,14 @@
 -- written by its records, as document 01 writes them: each is filled up with zeros, and zeros follow. Assumes nothing.
 use mathlib.Core.Path.{_≡_, refl}
 use mathlib.Core.List.{List, [], _∷_, _++_}
-use Prim.Native.Nat.{ℕ, zero, suc, _/_}
+use Prim.Native.Nat.{ℕ, suc, _/_}
 use native.Mathlib.Decide.{ℕ-discrete, decLt, decLe}
 use lib.ListN.{take, replicate}
 use Rattle.words.specs.Bytes.{Bytes}
 use Rattle.rules.specs.Limits.{recordBytes, checkAt, sizeLimit, pageBytes}
-use Rattle.rules.specs.Types.{RegionKind, variable, Variable, region, Tree, int, ptr, arr, struct}
+use Rattle.rules.specs.Types.{variable, region, Tree, int, ptr, arr, struct}
 use Rattle.rules.specs.Module.{Module, Function, jump}
-use Rattle.rules.specs.Flat.{Layout, Placed, at, size}
+use Rattle.rules.specs.Flat.{at, size}
 use Rattle.words.specs.Bytes.{number, little, listFrom}
 use Rattle.words.specs.First.{firstFrom, first, sumBelow}
 use Rattle.rules.specs.Decide.{decBoth, decEither, decImp, decAll, decThe, mapDec, decList, decEach}

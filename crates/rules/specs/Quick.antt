@@ -1,21 +1,21 @@
 -- The verdict again, computed in one walk: `quickOf` carries the walk from record to record where `verdictOf` names the walk
 -- before each. They are equal (`quick`), so cases are computed by the one and hold of the other. A proof for the tables of
 -- cases; nothing here says what the rules are. Assumes nothing.
-use mathlib.Core.Path.{_≡_, refl, sym, ap, _∙_}
+use mathlib.Core.Path.{_≡_, refl, ap}
 use mathlib.Core.Bool.{Bool, true, false, cond}
-use mathlib.Core.List.{List, [], _∷_}
+use mathlib.Core.List.{[], _∷_}
 use Prim.Native.Nat.{ℕ, zero, suc, _+_}
 use lib.Dec.{ltb}
 use Rattle.words.specs.Bytes.{Bytes}
 use Rattle.words.specs.First.{first, firstFrom}
-use Rattle.rules.specs.Stages.{Stage, verdict}
+use Rattle.rules.specs.Stages.{verdict}
 use Rattle.rules.specs.File.{records, lengthStage, blockStage}
 use Rattle.rules.specs.Walk.{Scan, scan, nextScan, whole, start}
-use Rattle.rules.specs.Records.{recordTestWith, recordTest, recordStage}
+use Rattle.rules.specs.Records.{recordTestWith, recordTest}
 use Rattle.rules.specs.Verdict.{moduleRules, recordRules, verdictOf}
 use Rattle.rules.specs.declared.Walk.{Walk}
 use Rattle.rules.specs.declared.Verdict.{Verdict}
-use Rattle.rules.specs.declared.Verdict.the-variants.{Accepted, Refused}
+use Rattle.rules.specs.declared.Verdict.the-variants.{Refused}
 
 unfoldable pub along : Bytes → (Walk → ℕ → Bool) → Scan → ℕ → ℕ → ℕ
 along f t s r zero = r
