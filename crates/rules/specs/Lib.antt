@@ -29,3 +29,4 @@ pub mod Claim
 pub mod CaseStates
 pub mod CasesStep
 pub mod CasesMachine
+pub mod CasesTest
