@@ -18,7 +18,7 @@ use Rattle.rules.specs.State.{View, view, memoryPlace}
 use Rattle.rules.specs.Heap.{close, Live, typeOf, heapTyping, Stands}
 use Rattle.rules.specs.Step.{Effect, set, fetch, save, takePlace, grantPage, freePlace, goTo, emit, push, pop, finish, stop, stuck, effectOf, grantedBy, handedBackBy}
 use Rattle.rules.specs.Writes.{applyState}
-use Rattle.rules.specs.Run.{Step, stateAfter, outputAfter, Trace}
+use Rattle.rules.specs.Run.{Step, stateAfter, outputAfter, Trace, stuckSteps}
 use Rattle.rules.specs.StateTest.{Listed}
 use Rattle.rules.specs.Host.{Outcome, Went, refused, went, Opened, opened, Tested, passed, goOf, traceOf, openOf, testOf, leftState}
 use Rattle.rules.specs.declared.Verdict.{Verdict}
@@ -194,6 +194,7 @@ pub data Start (f : Bytes) : Bytes → Type 0 where
 -- DEMAND 3, for the module of file f, a list of calls and the state where it starts.
 pub record Claim (f : Bytes) (calls : List Call) (s : Bytes) : Type 0 where
   pub answers : AllAnswered calls s
+  pub stuck : stuckSteps (stepsOf calls s) ≡ 0
   pub steps : AllSafe (moduleOf f) (stepsOf calls s)
   pub test : testOf f (finalOf calls s) ≡ passed
   pub bytes : AllBytes (finalOf calls s)

@@ -2,12 +2,12 @@
 -- says no. Nothing here needs to be read to know what the rules are. Assumes nothing.
 use mathlib.Core.Path.{_≡_, refl, sym, ap, _∙_, subst}
 use mathlib.Core.Logic.{_⊎_, inl, inr, _≢_}
-use mathlib.Core.List.{List, [], _∷_}
-use Prim.Native.Nat.{ℕ, zero, suc, _+_, _^_, _<_, _≤_}
+use mathlib.Core.List.{List}
+use Prim.Native.Nat.{ℕ, _^_, _<_, _≤_}
 use native.Mathlib.Decide.{ℕ-discrete, decLt, decLe}
 use native.Mathlib.Omega.{arith}
 use Rattle.rules.specs.Decide.{mapDec, decBoth, decEither, decAll, decThe}
-use Rattle.rules.specs.Types.{RegionKind, variable, Variable, region, decRegion, Tree, int, ptr, arr, struct, sub, arg, form, decTree}
+use Rattle.rules.specs.Types.{variable, Variable, region, decRegion, Tree, int, ptr, arr, struct, sub, arg, form, decTree}
 use Rattle.rules.specs.Module.{Module, Function, regions, argument, Instruction, constant, copy, operate, zeroExtend, signExtend, address, check, field, index, load, store, new, free, input, output, jump, branch, call, return}
 use Rattle.rules.specs.Flat.{Run, Same, decRun, decSame, flat}
 use Rattle.rules.specs.Operands.{signedQuotient, lastOperation}

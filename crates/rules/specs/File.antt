@@ -1,7 +1,6 @@
 -- Document 01, "The module file", first paragraph: blocks, records and kinds; and refusals 1, 2 and 3. Every read is total:
 -- past the end of the file there are zeros. Assumes nothing.
 use mathlib.Core.Bool.{Bool, cond, _&&_}
-use mathlib.Core.List.{List, [], _∷_}
 use Prim.Native.Nat.{ℕ, zero, suc, _+_, _*_, _/_, _%_}
 use lib.Dec.{ltb, leb, eqb}
 use lib.ListN.{length}
@@ -116,7 +115,8 @@ kindArray = 3
 abbrev pub kindStruct : ℕ
 kindStruct = 4
 
--- "5 name with a regions and b fields, then 6: field terms"
+-- "5 name with a regions and b fields, then 6: field terms". (Records and walk keep the file's word, name, for what a module
+-- calls a struct.)
 abbrev pub kindName : ℕ
 kindName = 5
 

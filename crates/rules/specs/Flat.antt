@@ -87,9 +87,13 @@ flatWith ls (ptr T r) = single 4 (ptr T r)
 flatWith ls (arr n T) = copies n (flatWith ls T)
 flatWith ls (struct N rs) = subLayout (arg rs) (getD ls N none)
 
+-- the fields one after the other, behind what L has already
+unfoldable pub fieldsFrom : List (Layout variable) → Layout variable → List (Tree variable) → Layout variable
+fieldsFrom ls L [] = L
+fieldsFrom ls L (T ∷ Ts) = fieldsFrom ls (beside L (flatWith ls T)) Ts
+
 unfoldable pub fieldsWith : List (Layout variable) → List (Tree variable) → Layout variable
-fieldsWith ls [] = empty
-fieldsWith ls (T ∷ Ts) = beside (flatWith ls T) (fieldsWith ls Ts)
+fieldsWith ls Ts = fieldsFrom ls empty Ts
 
 -- "Outside pointers, a field of name N mentions only names below N; a name that breaks this, or mentions outside pointers
 -- one without size, has no size": the layouts of the structs below n, each made of those before it

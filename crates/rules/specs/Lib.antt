@@ -25,7 +25,10 @@ pub mod Run
 pub mod StateTest
 pub mod Host
 pub mod Claim
--- small cases of the machine, by computation
+-- small cases by computation: nothing below says what the rules are
+pub mod Quick
+pub mod Table
+pub mod CasesFile
 pub mod CaseStates
 pub mod CasesStep
 pub mod CasesMachine

@@ -2,8 +2,7 @@
 -- register, region, function or target out of its range, a byte set that is unused, and a 35 missing or astray".
 -- Assumes nothing.
 use mathlib.Core.Bool.{Bool, true, false, cond, _&&_, _||_, not}
-use mathlib.Core.List.{List, [], _∷_}
-use Prim.Native.Nat.{ℕ, zero, suc, _+_}
+use Prim.Native.Nat.{ℕ, _+_}
 use lib.Dec.{ltb, leb, eqb}
 use lib.ListN.{getD}
 use Rattle.words.specs.Bytes.{Bytes}
@@ -11,7 +10,7 @@ use Rattle.rules.specs.Limits.{mostTerms, mostStructs, mostFunctions, mo
 use Rattle.rules.specs.Stages.{Stage}
 use Rattle.rules.specs.File.{records, recordOf, byteOfD, entryOf, regionsOf, returnOf, parametersOf, instructionsOf, within, isTerm, isInstruction, kindFiller, kindInteger, kindPointer, kindArray, kindStruct, kindName, kindFields, kindFunction, kindRegions, kindRegisters, kindArguments}
 use Rattle.rules.specs.Walk.{Scan, scan, whole, namesEnd, isEnd}
-use Rattle.rules.specs.Operands.{Classes, classesOf, operandFits}
+use Rattle.rules.specs.Operands.{classesOf, operandFits}
 use Rattle.rules.specs.declared.Record.{Record}
 use Rattle.rules.specs.declared.Walk.{Walk}
 use Rattle.rules.specs.declared.Phase.{Phase}

@@ -3,8 +3,8 @@
 -- targets, functions, regions) are premises too: where they fail the file was refused with 4 already. Assumes nothing.
 use mathlib.Core.Path.{_≡_}
 use mathlib.Core.List.{List}
-use Prim.Native.Nat.{ℕ, _+_, _^_, _<_, _≤_}
-use Rattle.rules.specs.Types.{RegionKind, variable, Variable, region, Tree, int, ptr, arr, sub, arg}
+use Prim.Native.Nat.{ℕ, _^_, _<_, _≤_}
+use Rattle.rules.specs.Types.{variable, Variable, region, Tree, int, ptr, arr, sub, arg}
 use Rattle.rules.specs.Module.{Module, Function, regions, argument, Instruction, constant, copy, operate, zeroExtend, signExtend, address, check, field, index, load, store, new, free, input, output, jump, branch, call, return}
 use Rattle.rules.specs.Flat.{Run, Same, flat}
 use Rattle.rules.specs.Operands.{signedQuotient, lastOperation}

@@ -1,9 +1,9 @@
 -- Document 01, "From the input": the verdict on a file, made of stages in the order of the refusals' numbers; and which rules
 -- a file breaks, and where. Assumes nothing.
-use mathlib.Core.Path.{_≡_, refl}
-use mathlib.Core.Bool.{Bool, true, false}
+use mathlib.Core.Path.{_≡_}
+use mathlib.Core.Bool.{Bool, false}
 use mathlib.Core.List.{List, [], _∷_, _++_}
-use Prim.Native.Nat.{ℕ, zero, suc, _+_, _-_, _*_, _<_, _≤_}
+use Prim.Native.Nat.{ℕ, _+_, _-_, _<_, _≤_}
 use native.Mathlib.Decide.{ℕ-discrete}
 use Rattle.words.specs.Bytes.{Bytes, listOf}
 use Rattle.words.specs.First.{sumBelow}
@@ -17,7 +17,7 @@ use Rattle.rules.specs.Typing.{Typed}
 use Rattle.rules.specs.Decision.{decTyped}
 use Rattle.rules.specs.WellTyped.{TermOk, decTerm, StructOk, decStruct, FunctionOk, decFunction, EntryOk, decEntry, Last, decLast}
 use Rattle.rules.specs.declared.Verdict.{Verdict}
-use Rattle.rules.specs.declared.Verdict.the-variants.{Accepted, Refused}
+use Rattle.rules.specs.declared.Verdict.the-variants.{Accepted}
 
 -- "5 has the first record of the term or name": the terms, then the names
 unfoldable pub termTest : Module → ℕ → Bool
@@ -80,7 +80,7 @@ verdictOf f = verdict (lengthStage f ∷ blockStage f ∷ []) (recordRules f)
 -- rule n is broken at place p: "A refusal returns number and place (block for 2 and 3, record for 4 to 8, else 0)"
 pub data Broken (f : Bytes) : ℕ → ℕ → Type 0 where
   -- "1 file length. 2 place or count of a block, 3 its check"
-  length : lengthRight f ≡ false → Broken f 1 0
+  fileLength : lengthRight f ≡ false → Broken f 1 0
   place : (i : ℕ) → i < blocks f → placeRight f i ≡ false → Broken f 2 i
   check : (i : ℕ) → i < blocks f → checkRight f i ≡ false → Broken f 3 i
   -- "4 record unknown, out of order, over a limit or naming nothing"; "A file that ends too soon has its record count as place"

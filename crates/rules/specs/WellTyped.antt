@@ -1,17 +1,16 @@
 -- Document 01, "From the input", refusals 5 to 8 as facts about a module, each with its test (that of 7 is in Decision): a
 -- well-typed module is one in which all of them hold. Assumes nothing.
-use mathlib.Core.Path.{_≡_, refl}
+use mathlib.Core.Path.{_≡_}
 use mathlib.Core.Bool.{cond}
-use mathlib.Core.List.{List, [], _∷_}
-use Prim.Native.Nat.{ℕ, zero, suc, _+_, _-_, _<_, _≤_}
-use native.Mathlib.Decide.{ℕ-discrete, decLt, decLe}
+use Prim.Native.Nat.{ℕ, _-_, _<_, _≤_}
+use native.Mathlib.Decide.{ℕ-discrete, decLe}
 use lib.Dec.{ltb}
 use lib.ListN.{length}
 use Rattle.rules.specs.Limits.{mostTerms, mostStructs, mostFunctions, mostRegions, mostRegionParams, mostEntries, mostRegisters, mostInstructions, sizeLimit}
-use Rattle.rules.specs.Decide.{mapDec, decBoth, decImp, decAll, Each, decEach}
-use Rattle.rules.specs.Types.{RegionKind, variable, Tree, int, ptr, arr, struct, decTree, Uses, decUses, Primitive, decPrimitive}
+use Rattle.rules.specs.Decide.{mapDec, decBoth, decAll, Each, decEach}
+use Rattle.rules.specs.Types.{variable, Tree, int, ptr, arr, struct, decTree, Uses, decUses, Primitive, decPrimitive}
 use Rattle.rules.specs.Module.{Module, Function, regions, Instruction, constant, copy, operate, zeroExtend, signExtend, address, check, field, index, load, store, new, free, input, output, jump, branch, call, return}
-use Rattle.rules.specs.Flat.{Layout, size, structFlat}
+use Rattle.rules.specs.Flat.{size, structFlat}
 use Rattle.rules.specs.Typing.{Typed}
 
 -- ---- "5 term or name without size, over 256 bytes, wrong argument count, or field using a region its name lacks"
@@ -114,7 +113,7 @@ pub record Ranges (f : Function) : Type 0 where
   pub params : f .params ≤ mostEntries
   pub fewParams : f .params ≤ f .registers
   pub some : 1 ≤ f .length
-  pub length : f .length ≤ mostInstructions
+  pub instructions : f .length ≤ mostInstructions
 
 pub record Tables (m : Module) : Type 0 where
   pub terms : m .terms ≤ mostTerms

@@ -2,8 +2,16 @@
 
 // The verdict on a module file. Accepted: terms, names, functions, instructions. Refused: document 01's number and place.
 pub enum Verdict {
-    Accepted { terms: usize, names: usize, functions: usize, instructions: usize },
-    Refused { number: usize, place: usize },
+    Accepted {
+        terms: usize,
+        names: usize,
+        functions: usize,
+        instructions: usize,
+    },
+    Refused {
+        number: usize,
+        place: usize,
+    },
 }
 
 // A record of the file: byte 0, bytes 1 to 3, bytes 4 to 7.

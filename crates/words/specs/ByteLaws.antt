@@ -12,7 +12,7 @@ use native.Mathlib.Omega.{arith}
 use lib.Arith.{mod-mul, digits-lt}
 use lib.Dec.{lit<}
 use lib.ListN.{length, getD, set, take, drop, replicate, length-replicate, getD-replicate, replicate-append-replicate, List·getD-eq-default}
-use lib.Seq.{ext-getD}
+use lib.Seq.{ext-getD, getD-drop, getD-take}
 use Rattle.words.specs.Bytes.{Bytes, AllBytes, byteAt, number, little, splice, put, fill, listFrom, listOf}
 
 -- the n elements from i on and the m elements from k on share none
@@ -158,6 +158,28 @@ module _ {A : Type 0} where
   splice-over (x ∷ s) zero (z ∷ m) zero [] a b = absurd (omega arith)
   splice-over (x ∷ s) zero (z ∷ m) zero (y ∷ l) a b = ap (λ (r : List A). y ∷ r) (splice-over s zero m zero l (omega arith) (omega arith))
 
+  inside-at : (s : List A) (i : ℕ) (l : List A) (j k : ℕ) (m : List A) → j ≡ i + k → k + length m ≤ length l
+      → splice (splice s i l) j m ≡ splice s i (splice l k m)
+  unfolding splice
+  inside-at [] i l j k m e h = refl
+  inside-at (x ∷ s) (suc i) l zero k m e h = absurd (omega arith)
+  inside-at (x ∷ s) (suc i) l (suc j) k m e h = ap (λ (r : List A). x ∷ r) (inside-at s i l j k m (omega arith) h)
+  inside-at (x ∷ s) zero [] zero k [] e h = refl
+  inside-at (x ∷ s) zero [] zero k (z ∷ m) e h = absurd (omega arith)
+  inside-at (x ∷ s) zero [] (suc j) k m e h = absurd (omega arith)
+  inside-at (x ∷ s) zero (y ∷ l) zero zero [] e h = refl
+  inside-at (x ∷ s) zero (y ∷ l) zero zero (z ∷ m) e h =
+      ap (λ (r : List A). z ∷ r) (inside-at s zero l zero zero m (omega arith) (omega arith))
+  inside-at (x ∷ s) zero (y ∷ l) zero (suc k) m e h = absurd (omega arith)
+  inside-at (x ∷ s) zero (y ∷ l) (suc j) zero m e h = absurd (omega arith)
+  inside-at (x ∷ s) zero (y ∷ l) (suc j) (suc k) m e h =
+      ap (λ (r : List A). y ∷ r) (inside-at s zero l j k m (omega arith) (omega arith))
+
+  -- a write inside an earlier one is one write
+  pub splice-inside : (s : List A) (i : ℕ) (l : List A) (k : ℕ) (m : List A) → k + length m ≤ length l
+      → splice (splice s i l) (i + k) m ≡ splice s i (splice l k m)
+  splice-inside s i l k m h = inside-at s i l (i + k) k m refl h
+
   -- ---- against what stands there
 
   -- past the end nothing is written
@@ -188,6 +210,15 @@ module _ {A : Type 0} where
   splice-part (x ∷ s) (suc i) n = ap (λ (r : List A). x ∷ r) (splice-part s i n)
   splice-part (x ∷ s) zero zero = refl
   splice-part (x ∷ s) zero (suc n) = ap (λ (r : List A). x ∷ r) (splice-part s zero n)
+
+  -- what was written stands there
+  pub part-splice : (s : List A) (i : ℕ) (l : List A) → i + length l ≤ length s → take (length l) (drop i (splice s i l)) ≡ l
+  unfolding splice
+  part-splice [] i [] h = refl
+  part-splice [] i (y ∷ l) h = absurd (omega arith)
+  part-splice (x ∷ s) (suc i) l h = part-splice s i l (omega arith)
+  part-splice (x ∷ s) zero [] h = refl
+  part-splice (x ∷ s) zero (y ∷ l) h = ap (λ (r : List A). y ∷ r) (part-splice s zero l (omega arith))
 
   -- a write as a cut and a paste: what a function leaves that lends the part in the middle
   pub splice-parts : (s : List A) (i : ℕ) (l : List A) (j : ℕ) → j ≡ i + length l → j ≤ length s → splice s i l ≡ take i s ++ l ++ drop j s
@@ -308,6 +339,14 @@ byte-past s i h = List·getD-eq-default s 0 h
 pub number-past : (n : ℕ) (s : Bytes) (i : ℕ) → length s ≤ i → number n s i ≡ 0
 number-past n s i h = number-zero n s i (λ j a b. byte-past s j (omega arith))
 
+-- a number of a part: what a function reads that is lent `s[a..e]`
+pub number-drop : (n : ℕ) (s : Bytes) (i k : ℕ) → number n (drop i s) k ≡ number n s (i + k)
+number-drop n s i k =
+    number-moved n (drop i s) s k (i + k) (λ j h. let e : i + k + j ≡ i + (k + j) = omega arith in rw e (getD-drop i s (k + j) 0))
+
+pub number-take : (n : ℕ) (s : Bytes) (m k : ℕ) → k + n ≤ m → number n (take m s) k ≡ number n s k
+number-take n s m k h = number-agree n (take m s) s k (λ j a b. getD-take m s j 0 (omega arith))
+
 -- ---- numbers after a write
 
 -- a write changes no number whose bytes lie apart
@@ -331,6 +370,15 @@ number-put n i m k s v h = number-splice s i (little n v) m k (rw length-little 
 pub number-fill : (n i m k : ℕ) (s : Bytes) (v : ℕ) → Apart n i m k → number m (fill n s i v) k ≡ number m s k
 unfolding fill
 number-fill n i m k s v h = number-splice s i (replicate n v) m k (rw length-replicate h)
+
+-- the same for a byte
+pub byte-put : (n : ℕ) (s : Bytes) (i v k : ℕ) → (k < i) ⊎ (i + n ≤ k) → byteAt (put n s i v) k ≡ byteAt s k
+unfolding put
+byte-put n s i v k h = getD-splice-out s i (little n v) k 0 (rw length-little h)
+
+pub byte-fill-out : (n : ℕ) (s : Bytes) (i v k : ℕ) → (k < i) ⊎ (i + n ≤ k) → byteAt (fill n s i v) k ≡ byteAt s k
+unfolding fill
+byte-fill-out n s i v k h = getD-splice-out s i (replicate n v) k 0 (rw length-replicate h)
 
 -- v cut to n bytes
 pub number-little : (n v : ℕ) → number n (little n v) 0 ≡ v % 256 ^ n
@@ -377,6 +425,10 @@ pub put-fill-comm : (n i m k : ℕ) (s : Bytes) (u v : ℕ) → Apart n i m k �
 unfolding put fill
 put-fill-comm n i m k s u v h = splice-comm s i (replicate n u) k (little m v) (rw (length-replicate n u, length-little m v) h)
 
+pub fill-comm : (n i m k : ℕ) (s : Bytes) (u v : ℕ) → Apart n i m k → fill m (fill n s i u) k v ≡ fill n (fill m s k v) i u
+unfolding fill
+fill-comm n i m k s u v h = splice-comm s i (replicate n u) k (replicate m v) (rw (length-replicate n u, length-replicate m v) h)
+
 -- a put that covers another leaves nothing of it
 pub put-over : (m n i k : ℕ) (s : Bytes) (u v : ℕ) → i ≤ k → k + m ≤ i + n → put n (put m s k u) i v ≡ put n s i v
 unfolding put
@@ -390,6 +442,11 @@ put-put n s i u v = put-over n n i i s u v (omega arith) (omega arith)
 pub fill-over-put : (m n i k : ℕ) (s : Bytes) (u v : ℕ) → i ≤ k → k + m ≤ i + n → fill n (put m s k u) i v ≡ fill n s i v
 unfolding put fill
 fill-over-put m n i k s u v a b = splice-over s k (little m u) i (replicate n v) a (rw (length-little m u, length-replicate n v) b)
+
+-- a fill that covers another leaves nothing of it
+pub fill-over : (m n i k : ℕ) (s : Bytes) (u v : ℕ) → i ≤ k → k + m ≤ i + n → fill n (fill m s k u) i v ≡ fill n s i v
+unfolding fill
+fill-over m n i k s u v a b = splice-over s k (replicate m u) i (replicate n v) a (rw (length-replicate m u, length-replicate n v) b)
 
 -- ---- puts and numbers
 

@@ -1,11 +1,10 @@
 -- Laws of tests: `cond`, the if-then-else of every definition that goes by a test; `&&`, `||` and `not`; and how a test reads as a fact.
 -- Assumes nothing.
-use mathlib.Core.Path.{_≡_, refl, sym, ap, _∙_, subst}
+use mathlib.Core.Path.{_≡_, refl, sym, ap, _∙_}
 use mathlib.Core.Bool.{Bool, true, false, cond, not, _&&_, _||_, true≢false, false≢true}
 use mathlib.Core.Logic.{_≢_, _⊎_, inl, inr, ⊎-elim, _↔_, ite}
-use Prim.Native.Nat.{ℕ, suc, _≤_, _<_}
+use Prim.Native.Nat.{ℕ, _≤_, _<_}
 use native.Mathlib.Decide.{decLe, decLt, ℕ-discrete}
-use native.Mathlib.Omega.{arith}
 use lib.Dec.{ltb, leb, eqb}
 use borrow.Author.Tests.{ltb-true, ltb-false, leb-true, leb-false, lt-ltb, le-ltb, le-leb, lt-leb, eqb-true, eqb-false, eq-eqb, ne-eqb}
 
@@ -18,8 +17,8 @@ split false = inr refl
 pub true-not-false : {b : Bool} → b ≡ true → b ≡ false → ⊥
 true-not-false p q = true≢false (sym p ∙ q)
 
-pub not-true : {b : Bool} → (b ≡ true → ⊥) → b ≡ false
-not-true {b} h = ⊎-elim (λ e. absurd (h e)) (λ e. e) (split b)
+pub false-by : {b : Bool} → (b ≡ true → ⊥) → b ≡ false
+false-by {b} h = ⊎-elim (λ e. absurd (h e)) (λ e. e) (split b)
 
 -- tests that hold in the same cases are equal
 pub bool-same : (a b : Bool) → (a ≡ true → b ≡ true) → (b ≡ true → a ≡ true) → a ≡ b
@@ -71,6 +70,20 @@ cond-same false x = refl
 pub cond-ap : {A B : Type 0} (f : A → B) (b : Bool) (x y : A) → f (cond b x y) ≡ cond b (f x) (f y)
 cond-ap f true x y = refl
 cond-ap f false x y = refl
+
+-- a choice by a compound test is a nest of choices
+module _ {A : Type 0} where
+  pub cond-not : (b : Bool) (x y : A) → cond (not b) x y ≡ cond b y x
+  cond-not true x y = refl
+  cond-not false x y = refl
+
+  pub cond-and : (a b : Bool) (x y : A) → cond (a && b) x y ≡ cond a (cond b x y) y
+  cond-and true b x y = refl
+  cond-and false b x y = refl
+
+  pub cond-or : (a b : Bool) (x y : A) → cond (a || b) x y ≡ cond a x (cond b x y)
+  cond-or true b x y = refl
+  cond-or false b x y = refl
 
 -- what each branch has under its test, the whole has
 module _ {A : Type 0} (P : A → Type 0) where

@@ -1,14 +1,14 @@
 -- Laws of `first`, `allBelow` and `sumBelow`: what a scan shows at its end, and how it reads. Assumes nothing.
-use mathlib.Core.Path.{_≡_, refl, sym, ap, ap₂, _∙_}
-use mathlib.Core.Bool.{Bool, true, false, not, _&&_, false≢true, true≢false}
-use mathlib.Core.Logic.{_≢_, _⊎_, inl, inr, ⊎-elim, _↔_}
+use mathlib.Core.Path.{_≡_, refl, sym, ap₂, _∙_}
+use mathlib.Core.Bool.{Bool, true, false, _&&_, false≢true}
+use mathlib.Core.Logic.{_≢_, ⊎-elim, _↔_}
 use Prim.Native.Nat.{ℕ, zero, suc, _+_, _-_, _*_, _≤_, _<_}
 use native.Mathlib.Nat.{zero-add, add-zero, add-suc}
 use native.Mathlib.Numerals.{add-one}
 use native.Mathlib.Decide.{decLt}
 use native.Mathlib.Omega.{arith}
 use Rattle.words.specs.First.{firstFrom, first, allBelow, sumBelow}
-use Rattle.words.specs.Choose.{split, true-not-false, not-true, lt-or-le, eq-or-ne, bool-same}
+use Rattle.words.specs.Choose.{true-not-false, false-by, lt-or-le, bool-same}
 
 -- ---- the first failure
 
@@ -92,11 +92,24 @@ module _ (n : ℕ) (t : ℕ → Bool) where
   pub first-at-most : (j : ℕ) → t j ≡ false → first n t ≤ j
   first-at-most j e = ⊎-elim (λ h. absurd (true-not-false (first-before j h) e)) (λ h. h) (lt-or-le j (first n t))
 
+  -- a search may start where all before is known to pass
+  pub first-from : (i : ℕ) → i ≤ n → ((j : ℕ) → j < i → t j ≡ true) → first n t ≡ firstFrom t i (n - i)
+  first-from i h before =
+      let l = firstFrom-least t i (n - i) in
+      let e : i + (n - i) ≡ n = omega arith in
+      first-is (firstFrom t i (n - i)) (omega arith)
+      (λ j a. ⊎-elim (before j) (λ b. l .before j b a) (lt-or-le j i))
+      (λ a. l .fails (omega arith))
+
 -- tests equal below n have one first failure
 pub first-agree : (n : ℕ) (t u : ℕ → Bool) → ((j : ℕ) → j < n → t j ≡ u j) → first n t ≡ first n u
 first-agree n t u h =
     let w : first n u ≤ n = first-le n u in
     first-is n t (first n u) w (λ j l. h j (omega arith) ∙ first-before n u j l) (λ l. h (first n u) l ∙ first-fails n u l)
+
+-- a failure that is found stays the first under a wider search
+pub first-wider : (n m : ℕ) (t : ℕ → Bool) → n ≤ m → first n t < n → first m t ≡ first n t
+first-wider n m t h l = first-is m t (first n t) (omega arith) (first-before n t) (λ _. first-fails n t l)
 
 -- ---- what a scan by `while i < n { if !t(i) { return i; } i += 1; }` has at its two ends
 module _ (n : ℕ) (t : ℕ → Bool) (i : ℕ) (before : (j : ℕ) → j < i → t j ≡ true) where
@@ -128,6 +141,15 @@ unfolding allBelow
 all-from zero t h = refl
 all-from (suc n) t h = and-elim (allBelow n t) (t n) (all-from n t (λ k l. h k (omega arith))) (h n (omega arith))
 
+-- one index more, as a loop counts
+pub all-more : (n : ℕ) (t : ℕ → Bool) → allBelow (n + 1) t ≡ allBelow n t && t n
+unfolding allBelow
+all-more n t = rw add-one (by (allBelow n t) (t n))
+  where
+    by : (a b : Bool) → elim a [ true ↦ b | false ↦ false ] ≡ a && b
+    by true b = refl
+    by false b = refl
+
 pub all-reads : (n : ℕ) (t : ℕ → Bool) → (allBelow n t ≡ true) ↔ ((k : ℕ) → k < n → t k ≡ true)
 all-reads n t = (all-holds n t, all-from n t)
 
@@ -136,7 +158,7 @@ pub all-as : {P : ℕ → Type 0} (n : ℕ) (t : ℕ → Bool) → ((k : ℕ) �
 all-as n t h = (λ e k l. h k .0 (all-holds n t e k l), λ f. all-from n t (λ k l. h k .1 (f k l)))
 
 pub all-fails : (n : ℕ) (t : ℕ → Bool) (k : ℕ) → k < n → t k ≡ false → allBelow n t ≡ false
-all-fails n t k l e = not-true (λ h. true-not-false (all-holds n t h k l) e)
+all-fails n t k l e = false-by (λ h. true-not-false (all-holds n t h k l) e)
 
 -- where it does not hold of all, the first failure is below n
 pub all-not : (n : ℕ) (t : ℕ → Bool) → allBelow n t ≡ false → first n t < n

@@ -60,12 +60,13 @@ pub fn byte(s: &[u8], i: usize) -> u8
     if i < s.len() { s[i] } else { 0 }
 }
 
-// The two bytes from i on. No index wraps before the end of the slice.
+// The two bytes from i on: one load but at the last byte. (No index wraps before the end of the slice.)
 pub fn half(s: &[u8], i: usize) -> u32
     ensures { λ r. ⌜ (r ≡ number 2 (now (s .entry)) i) × (r < 65536) ⌝ }
 {
-    if i < s.len() {
-        wide(s[i]) + wide(byte(s, i + 1)) * 256
+    let n = s.len();
+    if i < n {
+        if n - i < 2 { wide(s[i]) } else { half_at(s, i) }
     } else {
         0
     }

@@ -1,0 +1,120 @@
+-- Laws of type terms: substitution (identity, composition, agreement, closing), what it keeps (form, width, primitives, regions
+-- used), good trees under it. Assumes nothing.
+use mathlib.Core.Path.{_≡_, refl, ap, ap₂}
+use mathlib.Core.List.{List, [], _∷_, map}
+use Prim.Native.Nat.{ℕ, _<_, _≤_}
+use native.Mathlib.Omega.{arith}
+use lib.ListN.{length}
+use Rattle.rules.specs.Decide.{Each}
+use Rattle.rules.specs.Types.{RegionKind, variable, Region, Variable, region, Tree, int, ptr, arr, struct, width, sub, arg, nowhere, form, Uses, in-int, in-ptr, in-arr, in-struct, Primitive, integer, pointer}
+use Rattle.rules.specs.Heap.{close}
+use Rattle.layout.specs.Lists.{each-at, each-map, each-weaken, map-map, map-each, getD-map}
+
+-- ---- equal substitutions
+
+map-id : {k : RegionKind} (rs : List (Region k)) → map (λ r. r) rs ≡ rs
+map-id [] = refl
+map-id {k} (r ∷ rs) = ap (λ (l : List (Region k)). r ∷ l) (map-id rs)
+
+pub sub-id : {k : RegionKind} (T : Tree k) → sub (λ r. r) T ≡ T
+unfolding sub
+sub-id (int w) = refl
+sub-id {k} (ptr T r) = ap (λ (U : Tree k). ptr U r) (sub-id T)
+sub-id {k} (arr n T) = ap {B = Tree k} (arr n) (sub-id T)
+sub-id {k} (struct N rs) = ap {B = Tree k} (struct N) (map-id rs)
+
+pub sub-sub : {i j k : RegionKind} (σ : Region j → Region k) (τ : Region i → Region j) (T : Tree i) → sub σ (sub τ T) ≡ sub (λ r. σ (τ r)) T
+unfolding sub
+sub-sub σ τ (int w) = refl
+sub-sub {k = k} σ τ (ptr T r) = ap (λ (U : Tree k). ptr U (σ (τ r))) (sub-sub σ τ T)
+sub-sub {k = k} σ τ (arr n T) = ap {B = Tree k} (arr n) (sub-sub σ τ T)
+sub-sub {k = k} σ τ (struct N rs) = ap {B = Tree k} (struct N) (map-map σ τ rs)
+
+-- substitutions that agree on the regions below n agree on what uses only those
+pub sub-agree : {k : RegionKind} (n : ℕ) (σ τ : Variable → Region k) (T : Tree variable) → Uses n T → ((r : Variable) → r .number < n → σ r ≡ τ r) → sub σ T ≡ sub τ T
+unfolding sub
+sub-agree n σ τ (int w) u e = refl
+sub-agree {k} n σ τ (ptr T r) (in-ptr h u) e = ap₂ {C = Tree k} ptr (sub-agree n σ τ T u e) (e r h)
+sub-agree {k} n σ τ (arr m T) (in-arr u) e = ap {B = Tree k} (arr m) (sub-agree n σ τ T u e)
+sub-agree {k} n σ τ (struct N rs) (in-struct u) e = ap {B = Tree k} (struct N) (map-each σ τ e u)
+
+pub close-agree : (n : ℕ) (μ ν : ℕ → ℕ) (T : Tree variable) → Uses n T → ((i : ℕ) → i < n → μ i ≡ ν i) → close μ T ≡ close ν T
+close-agree n μ ν T u e = sub-agree n (λ r. region (μ (r .number))) (λ r. region (ν (r .number))) T u (λ r h. ap region (e (r .number) h))
+
+-- a call's regions through the caller's map
+pub close-sub : (μ : ℕ → ℕ) (rs : List Variable) (T : Tree variable) → close μ (sub (arg rs) T) ≡ close (λ i. μ (arg rs (region i) .number)) T
+close-sub μ rs T = sub-sub (λ r. region (μ (r .number))) (arg rs) T
+
+-- arguments put in, then σ, is σ of the arguments
+pub arg-map : {j k : RegionKind} (σ : Region j → Region k) (rs : List (Region j)) (v : Variable) → v .number < length rs → arg (map σ rs) v ≡ σ (arg rs v)
+arg-map σ rs v h = getD-map σ rs (v .number) (region nowhere) (region nowhere) h
+
+-- ---- what a substitution keeps
+
+module _ {j k : RegionKind} (σ : Region j → Region k) where
+  pub sub-form : (T : Tree j) → form (sub σ T) ≡ form T
+  unfolding sub
+  sub-form (int w) = refl
+  sub-form (ptr T r) = refl
+  sub-form (arr n T) = refl
+  sub-form (struct N rs) = refl
+
+  pub sub-width : (T : Tree j) → width (sub σ T) ≡ width T
+  unfolding sub
+  sub-width (int w) = refl
+  sub-width (ptr T r) = refl
+  sub-width (arr n T) = refl
+  sub-width (struct N rs) = refl
+
+  pub sub-prim : (T : Tree j) → Primitive T → Primitive (sub σ T)
+  unfolding sub
+  sub-prim (int w) p = integer
+  sub-prim (ptr T r) p = pointer
+  sub-prim (arr n T) p = elim p [ ]
+  sub-prim (struct N rs) p = elim p [ ]
+
+  pub prim-sub : (T : Tree j) → Primitive (sub σ T) → Primitive T
+  unfolding sub
+  prim-sub (int w) p = integer
+  prim-sub (ptr T r) p = pointer
+  prim-sub (arr n T) p = elim p [ ]
+  prim-sub (struct N rs) p = elim p [ ]
+
+-- ---- regions used
+
+-- the argument that a struct has for one of its regions
+pub arg-uses : (n : ℕ) (rs : List Variable) (v : Variable) → Each (λ r. r .number < n) rs → v .number < length rs → arg rs v .number < n
+arg-uses n rs v u h = each-at (v .number) (region nowhere) h u
+
+pub uses-sub : (m n : ℕ) (σ : Variable → Variable) → ((r : Variable) → r .number < m → σ r .number < n) → (T : Tree variable) → Uses m T → Uses n (sub σ T)
+unfolding sub
+uses-sub m n σ f (int w) u = in-int
+uses-sub m n σ f (ptr T r) (in-ptr h u) = in-ptr (f r h) (uses-sub m n σ f T u)
+uses-sub m n σ f (arr c T) (in-arr u) = in-arr (uses-sub m n σ f T u)
+uses-sub m n σ f (struct N rs) (in-struct u) = in-struct (each-map σ f u)
+
+pub uses-more : (m n : ℕ) → m ≤ n → (T : Tree variable) → Uses m T → Uses n T
+uses-more m n l (int w) u = in-int
+uses-more m n l (ptr T r) (in-ptr h u) = in-ptr {r = r} (omega arith) (uses-more m n l T u)
+uses-more m n l (arr c T) (in-arr u) = in-arr (uses-more m n l T u)
+uses-more m n l (struct N rs) (in-struct u) = in-struct (each-weaken (λ r h. omega arith) u)
+
+-- P of the region that a pointer type points into
+abbrev pub Outer : {k : RegionKind} → (ℕ → Type 0) → Tree k → Type 0
+Outer P (int w) = Unit {0}
+Outer P (ptr T r) = P (r .number)
+Outer P (arr n T) = Unit {0}
+Outer P (struct N rs) = Unit {0}
+
+pub outer-close : (P : ℕ → Type 0) (μ : ℕ → ℕ) (n : ℕ) (T : Tree variable) → Uses n T → ((i : ℕ) → i < n → P (μ i)) → Outer P (close μ T)
+unfolding sub
+outer-close P μ n (int w) u f = tt
+outer-close P μ n (ptr T r) (in-ptr h u) f = f (r .number) h
+outer-close P μ n (arr c T) u f = tt
+outer-close P μ n (struct N rs) u f = tt
+
+pub outer-all : {k : RegionKind} (P : ℕ → Type 0) (T : Tree k) → ((r : ℕ) → P r) → Outer P T
+outer-all P (int w) f = tt
+outer-all P (ptr T r) f = f (r .number)
+outer-all P (arr n T) f = tt
+outer-all P (struct N rs) f = tt

@@ -1,0 +1,32 @@
+-- How the code's readers and writers meet the definitions: a field at a place that the code computed. Assumes nothing.
+use mathlib.Core.Path.{_≡_, refl, sym, ap, _∙_}
+use Prim.Native.Nat.{ℕ, _+_, _%_, _<_}
+use lib.ListN.{length, replicate, length-replicate}
+use Rattle.words.specs.Bytes.{Bytes, byteAt, little, splice, put, fill}
+use Rattle.words.specs.ByteLaws.{splice-whole}
+use Rattle.words.specs.Bits.{bit, withBit}
+use Rattle.rules.specs.Limits.{pages, pageBytes}
+use Rattle.rules.specs.State.{markPlace, pageMark, putMark}
+use Rattle.state.specs.Puts.{after}
+use Rattle.state.specs.Reads.{mark-is}
+
+pub put-at : (n : ℕ) (s : Bytes) (i j v : ℕ) → i ≡ j → put n s i v ≡ splice s j (little n v)
+unfolding put
+put-at n s i j v e = ap (λ (k : ℕ). splice s k (little n v)) e
+
+pub fill-at : (n : ℕ) (s : Bytes) (i j : ℕ) → i ≡ j → fill n s i 0 ≡ splice s j (replicate n 0)
+unfolding fill
+fill-at n s i j e = ap (λ (k : ℕ). splice s k (replicate n 0)) e
+
+-- the whole list
+pub fill-whole : (n : ℕ) (s : Bytes) → n ≡ length s → fill n s 0 0 ≡ replicate (length s) 0
+unfolding fill
+fill-whole n s e = ap (λ (k : ℕ). splice s 0 (replicate k 0)) e ∙ splice-whole s (replicate (length s) 0) (length-replicate {A = ℕ} (length s) 0)
+
+-- a bit of the byte c at place i
+pub mark-read : (s : Bytes) (c i p j : ℕ) → c ≡ byteAt s i → i ≡ markPlace p j → p < pages → j < pageBytes → bit c (j % 8) ≡ pageMark s p j
+mark-read s c i p j d e h l = ap (λ (x : ℕ). bit x (j % 8)) (d ∙ ap (λ (k : ℕ). byteAt s k) e) ∙ sym (mark-is s h l)
+
+pub mark-written : (s : Bytes) (i p j b x : ℕ) → i ≡ markPlace p j → x ≡ withBit (byteAt s i) (j % 8) b → put 1 s i x ≡ after (putMark s p j b) s
+mark-written s i p j b x e d =
+    put-at 1 s i (markPlace p j) x e ∙ ap (λ (y : ℕ). splice s (markPlace p j) (little 1 y)) (d ∙ ap (λ (k : ℕ). withBit (byteAt s k) (j % 8) b) e)

@@ -1,0 +1,777 @@
+//! Random modules that are accepted and run. Types, signatures and registers are drawn first,
+//! with regions that fit the callees; code is then drawn from the instructions that the
+//! registers' types allow. Nothing here decides what an answer should be.
+
+use crate::builder::{self, code, FunctionBuilder, ModuleBuilder};
+use crate::checker::Typing;
+use crate::file::Record;
+use crate::module::{
+    Function, Instruction, Module, Name, Term, KIND_ARGUMENTS, KIND_CALL, MAX_LIST, MAX_REGIONS,
+    MAX_REGISTERS, MAX_TERMS,
+};
+use crate::prng::Prng;
+use crate::types::{regions_used, sizes, Type, Types, Variable, MAX_SIZE, NO_SIZE};
+
+/// A module with what a run of it is lent.
+#[derive(Clone, Debug)]
+pub struct Sample {
+    pub records: Vec<Record>,
+    pub arguments: Vec<u8>,
+    pub form: Vec<u8>,
+}
+
+impl Sample {
+    pub fn file(&self) -> Vec<u8> {
+        builder::file(&self.records)
+    }
+}
+
+/// Names stay below this, so that arrays of them have a size.
+const NAME_SIZE: u32 = 40;
+
+/// A call that the regions of caller and callee allow.
+#[derive(Clone, Debug)]
+struct PlannedCall {
+    callee: usize,
+    regions: Vec<u8>,
+}
+
+/// The number of this term: that of an equal one, or sometimes a new one although one is there.
+fn intern(rng: &mut Prng, terms: &mut Vec<Term>, term: Term) -> Option<u8> {
+    let known = terms.iter().position(|other| *other == term);
+    match known {
+        Some(number) if terms.len() > MAX_TERMS - 24 || rng.percent(85) => Some(number as u8),
+        _ if terms.len() < MAX_TERMS => {
+            terms.push(term);
+            Some((terms.len() - 1) as u8)
+        }
+        _ => None,
+    }
+}
+
+/// A term with other regions put for its variables, if there is room for its parts.
+fn substitute(rng: &mut Prng, terms: &mut Vec<Term>, term: u8, regions: &[u8]) -> Option<u8> {
+    let put = match terms[usize::from(term)].clone() {
+        Term::Integer { .. } => return Some(term),
+        Term::Pointer { target, region } => {
+            let target = substitute(rng, terms, target, regions)?;
+            let region = *regions.get(usize::from(region))?;
+            Term::Pointer { target, region }
+        }
+        Term::Array { element, count } => {
+            let element = substitute(rng, terms, element, regions)?;
+            Term::Array { element, count }
+        }
+        Term::Name { name, arguments } => {
+            let put = arguments.iter().map(|&region| regions.get(usize::from(region)).copied());
+            Term::Name { name, arguments: put.collect::<Option<_>>()? }
+        }
+    };
+    intern(rng, terms, put)
+}
+
+fn is_primitive(term: &Term) -> bool {
+    matches!(term, Term::Integer { .. } | Term::Pointer { .. })
+}
+
+fn integer_term(module: &Module, width: u8) -> u8 {
+    let found = module.terms.iter().position(|term| *term == Term::Integer { width });
+    found.expect("all three integers are drawn first") as u8
+}
+
+/// Terms and names that have sizes.
+fn draw_types(rng: &mut Prng) -> Module {
+    let name_regions: Vec<usize> = (0..rng.below(5)).map(|_| rng.between(0, 3)).collect();
+    let mut terms: Vec<Term> = Vec::new();
+    for width in if rng.percent(50) { [1, 2, 4] } else { [4, 2, 1] } {
+        terms.push(Term::Integer { width });
+    }
+    // At most this size, whatever the names' fields are.
+    let mut bounds = vec![4; 3];
+    let regions = rng.pick(&[1, 2, 2, 3, 3, MAX_REGIONS]).expect("not empty");
+    for _ in 0..rng.between(4, 18) {
+        let inner = rng.below(terms.len()) as u8;
+        let bound = bounds[usize::from(inner)];
+        let (term, bound) = match rng.below(100) {
+            0..40 => {
+                let region = rng.below(regions) as u8;
+                (Term::Pointer { target: inner, region }, 4)
+            }
+            40..60 => {
+                let most = if rng.percent(85) { 6 } else { MAX_SIZE };
+                let count = rng.between(1, (MAX_SIZE / bound).min(most) as usize) as u32;
+                (Term::Array { element: inner, count }, bound * count)
+            }
+            _ if name_regions.is_empty() => continue,
+            _ => {
+                let name = rng.below(name_regions.len());
+                let arguments = (0..name_regions[name]).map(|_| rng.below(regions) as u8).collect();
+                (Term::Name { name: name as u8, arguments }, NAME_SIZE)
+            }
+        };
+        terms.push(term);
+        bounds.push(bound);
+    }
+    let mut module = Module { terms, names: Vec::new(), functions: Vec::new() };
+    for &regions in &name_regions {
+        // Terms of names that are not drawn yet have no size here and are left out.
+        let known = sizes(&module).terms;
+        let fits = |&term: &u8| {
+            known[usize::from(term)] < NO_SIZE && regions_used(&module, term) <= regions
+        };
+        let fitting: Vec<u8> = (0..module.terms.len() as u8).filter(fits).collect();
+        let mut fields = Vec::new();
+        let mut room = NAME_SIZE;
+        for _ in 0..rng.between(1, MAX_LIST) {
+            let field = rng.pick(&fitting).expect("integers fit");
+            if known[usize::from(field)] <= room {
+                room -= known[usize::from(field)];
+                fields.push(field);
+            }
+        }
+        if fields.is_empty() {
+            fields.push(integer_term(&module, 4));
+        }
+        module.names.push(Name { place: 0, regions, fields });
+    }
+    module
+}
+
+/// The fields or the element that a term has, regions put in.
+fn parts(rng: &mut Prng, module: &mut Module, term: u8) -> Vec<u8> {
+    match module.terms[usize::from(term)].clone() {
+        Term::Integer { .. } | Term::Pointer { .. } => vec![],
+        Term::Array { element, .. } => vec![element],
+        Term::Name { name, arguments } => {
+            let fields = module.names[usize::from(name)].fields.clone();
+            let put = fields.into_iter();
+            put.filter_map(|field| substitute(rng, &mut module.terms, field, &arguments)).collect()
+        }
+    }
+}
+
+/// A term that uses only these regions; structs and arrays rather than integers.
+fn draw_region_type(rng: &mut Prng, module: &Module, scope: usize) -> u8 {
+    let all = 0..module.terms.len() as u8;
+    let fitting: Vec<u8> = all.filter(|&term| regions_used(module, term) <= scope).collect();
+    let rich: Vec<u8> = fitting.iter().copied().filter(|&term| term > 2).collect();
+    let rich = if rng.percent(80) { rng.pick(&rich) } else { None };
+    rich.or_else(|| rng.pick(&fitting)).expect("integers fit")
+}
+
+/// The callee's region types with these regions put in equal the caller's.
+fn regions_match(module: &Module, own: &[u8], callee: &Function, regions: &[u8]) -> bool {
+    let mut types = Types::<Variable>::new(module);
+    let put: Vec<Variable> = regions.iter().map(|&region| Variable(region)).collect();
+    regions.iter().zip(&callee.region_types).all(|(&region, &written)| {
+        let given = types.term(own[usize::from(region)], &crate::types::IDENTITY);
+        given == types.term(written, &put)
+    })
+}
+
+/// Regions for a call: of the caller's own, else new local ones with the types put in.
+fn fit_regions(
+    rng: &mut Prng,
+    module: &mut Module,
+    own: &mut Vec<u8>,
+    callee: &Function,
+) -> Option<Vec<u8>> {
+    let count = callee.region_parameters;
+    if !own.is_empty() {
+        for _ in 0..8 {
+            let regions: Vec<u8> = (0..count).map(|_| rng.below(own.len()) as u8).collect();
+            if regions_match(module, own, callee, &regions) {
+                return Some(regions);
+            }
+        }
+    }
+    // One new region given for all parameters, else one each.
+    let first = own.len() as u8;
+    let alike = rng.percent(40);
+    let choices = [vec![first; count], (first..first + count as u8).collect::<Vec<u8>>()];
+    for regions in choices.into_iter().skip(usize::from(!alike)) {
+        let last = regions.iter().max().map_or(own.len(), |&region| usize::from(region) + 1);
+        if last > MAX_REGIONS {
+            continue;
+        }
+        let mut extended = own.clone();
+        for &written in &callee.region_types[..last - own.len()] {
+            extended.push(substitute(rng, &mut module.terms, written, &regions)?);
+        }
+        if regions_match(module, &extended, callee, &regions) {
+            *own = extended;
+            return Some(regions);
+        }
+    }
+    None
+}
+
+/// The signature, regions and registers of function `number`, and the calls that fit it.
+fn draw_function(
+    rng: &mut Prng,
+    module: &mut Module,
+    number: usize,
+    callees: &[(usize, Function)],
+) -> (Function, Vec<PlannedCall>) {
+    let i32_term = integer_term(module, 4);
+    let region_parameters = if number == 0 { 0 } else { rng.below(4) };
+    let mut regions: Vec<u8> = Vec::new();
+    for _ in 0..region_parameters {
+        let term = if !regions.is_empty() && rng.percent(30) {
+            regions[0]
+        } else {
+            draw_region_type(rng, module, region_parameters)
+        };
+        regions.push(term);
+    }
+    let primitives_within = |module: &Module, scope: usize| -> Vec<u8> {
+        let all = 0..module.terms.len() as u8;
+        let fits = |&term: &u8| {
+            is_primitive(&module.terms[usize::from(term)]) && regions_used(module, term) <= scope
+        };
+        all.filter(fits).collect()
+    };
+    let mut pointers = Vec::new();
+    for (region, &target) in regions.clone().iter().enumerate() {
+        let pointer = Term::Pointer { target, region: region as u8 };
+        pointers.extend(intern(rng, &mut module.terms, pointer));
+    }
+    let draw_outer = |rng: &mut Prng, module: &Module| {
+        let pointer = if rng.percent(60) { rng.pick(&pointers) } else { None };
+        let any = primitives_within(module, region_parameters);
+        pointer.or_else(|| rng.pick(&any)).expect("integers fit")
+    };
+    let mut registers: Vec<u8> = Vec::new();
+    for _ in 0..rng.below(4) {
+        registers.push(if number == 0 { i32_term } else { draw_outer(rng, module) });
+    }
+    let parameters = registers.len();
+    let return_term = if number == 0 { i32_term } else { draw_outer(rng, module) };
+
+    let mut calls = Vec::new();
+    for _ in 0..rng.between(0, 3) {
+        if let Some((callee, signature)) = callees.get(rng.below(callees.len() + 1)) {
+            if let Some(fitting) = fit_regions(rng, module, &mut regions, signature) {
+                calls.push(PlannedCall { callee: *callee, regions: fitting });
+            }
+        }
+    }
+    let wanted = if number == 0 { rng.between(1, 3) } else { rng.below(3) };
+    let total = (regions.len() + wanted).min(MAX_REGIONS);
+    while regions.len() < total {
+        regions.push(draw_region_type(rng, module, total));
+    }
+
+    let mut wish = vec![return_term, i32_term, i32_term, i32_term];
+    for call in &calls {
+        let callee = &callees.iter().find(|(number, _)| *number == call.callee).expect("known").1;
+        let types = &callee.register_types[..callee.parameters];
+        for &written in types.iter().chain([&callee.return_term]) {
+            wish.extend(substitute(rng, &mut module.terms, written, &call.regions));
+        }
+    }
+    wish.extend([integer_term(module, 1), integer_term(module, 2), integer_term(module, 1)]);
+    for region in 0..regions.len() as u8 {
+        let mut part = regions[usize::from(region)];
+        let mut add = |rng: &mut Prng, module: &mut Module, target: u8| {
+            let pointer = Term::Pointer { target, region };
+            wish.extend(intern(rng, &mut module.terms, pointer));
+            if is_primitive(&module.terms[usize::from(target)]) && rng.percent(70) {
+                wish.push(target);
+            }
+        };
+        add(rng, module, part);
+        for _ in 0..rng.below(4) {
+            let inner = parts(rng, module, part);
+            let Some(chosen) = rng.pick(&inner) else { break };
+            add(rng, module, chosen);
+            if rng.percent(60) {
+                part = chosen;
+            }
+        }
+    }
+    wish.truncate(MAX_REGISTERS - parameters);
+    registers.extend(wish);
+    let function = Function {
+        place: 0,
+        region_parameters,
+        region_types: regions,
+        parameters,
+        register_types: registers,
+        return_term,
+        code: Vec::new(),
+    };
+    (function, calls)
+}
+
+/// Draws code for one function.
+struct Emitter<'t, 'm> {
+    rng: &'t mut Prng,
+    module: &'m Module,
+    typing: Typing<'t, 'm>,
+    function: &'m Function,
+    calls: &'t [PlannedCall],
+    integers: Vec<u8>,
+    pointers: Vec<u8>,
+    /// Pointer registers that very likely are not zero.
+    filled: [bool; MAX_REGISTERS],
+    /// Registers that a loop around counts with.
+    reserved: Vec<u8>,
+    code: Vec<Instruction>,
+}
+
+fn instruction(kind: u8, a: u8, b: u8, c: u8, d: u32) -> Instruction {
+    Instruction { place: 0, kind, a, b, c, d, arguments: [0; MAX_LIST] }
+}
+
+impl Emitter<'_, '_> {
+    fn typed(&mut self, instruction: &Instruction) -> bool {
+        self.typing.rule(instruction).is_some()
+    }
+
+    fn width(&self, register: u8) -> u8 {
+        match self.module.terms[usize::from(self.function.register_types[usize::from(register)])] {
+            Term::Integer { width } => width,
+            _ => 4,
+        }
+    }
+
+    fn free_of(&self, registers: &[u8]) -> Vec<u8> {
+        registers.iter().copied().filter(|register| !self.reserved.contains(register)).collect()
+    }
+
+    fn i32_registers(&self) -> Vec<u8> {
+        self.free_of(&self.integers).into_iter().filter(|&number| self.width(number) == 4).collect()
+    }
+
+    fn constant(&mut self, a: u8, value: u32) {
+        self.code.push(instruction(16, a, 0, 0, value));
+    }
+
+    /// One of the typed instructions of this kind over these registers.
+    fn pick_pair(&mut self, kind: u8, first: &[u8], second: &[u8]) -> Option<Instruction> {
+        let mut found = Vec::new();
+        for &a in first {
+            for &b in second {
+                let candidate = instruction(kind, a, b, 0, 0);
+                if self.typed(&candidate) {
+                    found.push(candidate);
+                }
+            }
+        }
+        self.rng.pick(&found)
+    }
+
+    /// Makes a pointer register not zero before it is used; none where that cannot be done, but
+    /// for a few that are let through.
+    fn fill(&mut self, pointer: u8) -> Option<()> {
+        if self.filled[usize::from(pointer)] || self.rng.percent(3) {
+            return Some(());
+        }
+        let new = instruction(27, pointer, 0, 0, 0);
+        if self.typed(&new) {
+            self.code.push(new);
+            self.filled[usize::from(pointer)] = true;
+            return Some(());
+        }
+        // A part of an object that can be made.
+        let wholes = self.pointers.clone();
+        let new = |whole: u8| instruction(27, whole, 0, 0, 0);
+        let wholes: Vec<u8> = wholes.into_iter().filter(|&whole| self.typed(&new(whole))).collect();
+        let field = self.pick_field(&[pointer], &wholes)?;
+        self.fill(field.b)?;
+        self.code.push(field);
+        self.filled[usize::from(pointer)] = true;
+        Some(())
+    }
+
+    fn pick_field(&mut self, parts: &[u8], wholes: &[u8]) -> Option<Instruction> {
+        let mut found = Vec::new();
+        for &a in parts {
+            for &b in wholes {
+                for d in 0..12 {
+                    let candidate = instruction(23, a, b, 0, d);
+                    if a != b && self.typed(&candidate) {
+                        found.push(candidate);
+                    }
+                }
+            }
+        }
+        self.rng.pick(&found)
+    }
+
+    fn set_filled(&mut self, register: u8, filled: bool) {
+        self.filled[usize::from(register)] = filled;
+    }
+
+    /// Appends one instruction, with those that make it likely to pass; none may fit.
+    fn emit(&mut self) -> Option<()> {
+        let integers = self.free_of(&self.integers);
+        let numbers = self.i32_registers();
+        let pointers = self.pointers.clone();
+        match self.rng.below(130) {
+            0..8 => {
+                let a = self.rng.pick(&integers)?;
+                let most = u32::MAX >> (32 - 8 * u32::from(self.width(a)));
+                let value = if self.rng.percent(60) {
+                    self.rng.below(40) as u32
+                } else {
+                    self.rng.word() as u32
+                };
+                self.constant(a, value & most);
+            }
+            8..14 => {
+                let copy = if self.rng.percent(50) {
+                    self.pick_pair(17, &integers, &integers)
+                } else {
+                    self.pick_pair(17, &pointers, &pointers)
+                }?;
+                self.set_filled(copy.a, self.filled[usize::from(copy.b)]);
+                self.code.push(copy);
+            }
+            14..30 => {
+                let b = self.rng.pick(&self.integers)?;
+                let divides_or_shifts = self.rng.percent(40);
+                let (low, high) = if divides_or_shifts { (6, 10) } else { (0, 13) };
+                let operation = self.rng.between(low, high) as u32;
+                let width = self.width(b);
+                let of_width = |width: u8| -> Vec<u8> {
+                    let fits = |&register: &u8| self.width(register) == width;
+                    integers.iter().copied().filter(fits).collect()
+                };
+                let operands = of_width(width);
+                let results = of_width(if operation > 10 { 1 } else { width });
+                let c = self.rng.pick(&operands)?;
+                let a = self.rng.pick(&results)?;
+                let candidate = instruction(18, a, b, c, operation);
+                if !self.typed(&candidate) {
+                    return None;
+                }
+                if (6..=10).contains(&operation) && self.rng.percent(93) {
+                    let most = if self.rng.percent(90) { 7 } else { 40 };
+                    let value = self.rng.between(1, most) as u32;
+                    self.constant(c, value);
+                }
+                self.code.push(candidate);
+            }
+            30..36 => {
+                let kind = self.rng.between(19, 20) as u8;
+                let extend = self.pick_pair(kind, &integers, &integers)?;
+                self.code.push(extend);
+            }
+            36..46 => self.emit_check(&numbers, &pointers)?,
+            46..58 => {
+                let field = self.pick_field(&pointers, &pointers)?;
+                self.fill(field.b)?;
+                self.code.push(field);
+                self.set_filled(field.a, true);
+            }
+            58..66 => {
+                let c = self.rng.pick(&numbers)?;
+                let mut found = Vec::new();
+                for &a in &pointers {
+                    for &b in &pointers {
+                        let candidate = instruction(24, a, b, c, 0);
+                        if self.typed(&candidate) {
+                            found.push(candidate);
+                        }
+                    }
+                }
+                let index = self.rng.pick(&found)?;
+                if self.rng.percent(94) {
+                    let value = self.rng.below(3) as u32;
+                    let value = if self.rng.percent(70) { 0 } else { value };
+                    self.constant(c, value);
+                }
+                self.fill(index.b)?;
+                self.code.push(index);
+                self.set_filled(index.a, true);
+            }
+            66..77 => {
+                let targets = [&integers[..], &pointers[..]].concat();
+                let load = self.pick_pair(25, &targets, &pointers)?;
+                self.fill(load.b)?;
+                self.code.push(load);
+                self.set_filled(load.a, false);
+            }
+            77..88 => {
+                let values = [&self.integers[..], &pointers[..]].concat();
+                let store = self.pick_pair(26, &pointers, &values)?;
+                self.fill(store.a)?;
+                if pointers.contains(&store.b) {
+                    let _may_stay_zero = self.fill(store.b);
+                }
+                self.code.push(store);
+            }
+            88..96 => {
+                let kind = if self.rng.percent(70) { 27 } else { 28 };
+                let object = self.pick_pair(kind, &pointers, &[0])?;
+                if kind == 28 {
+                    self.fill(object.a)?;
+                } else {
+                    self.set_filled(object.a, true);
+                }
+                self.code.push(object);
+            }
+            96..101 => {
+                let c = self.rng.pick(&numbers)?;
+                let bytes: Vec<u8> =
+                    integers.into_iter().filter(|&register| self.width(register) == 1).collect();
+                let a = self.rng.pick(&bytes)?;
+                if self.rng.percent(97) {
+                    let value = self.rng.below(10) as u32;
+                    self.constant(c, value);
+                }
+                self.code.push(instruction(29, a, 0, c, 0));
+            }
+            101..106 => {
+                let output = self.pick_pair(30, &[0], &self.integers.clone())?;
+                self.code.push(output);
+            }
+            106..116 => self.emit_call()?,
+            116..123 => {
+                // Over a few instructions.
+                let a = self.rng.pick(&self.integers)?;
+                let at = self.code.len();
+                self.code.push(instruction(32, a, 0, 0, 0));
+                let before = self.filled;
+                self.emit_some(4);
+                for (register, filled) in self.filled.iter_mut().enumerate() {
+                    *filled &= before[register];
+                }
+                // The code always goes on, so there is an instruction behind.
+                self.code[at].d = self.code.len() as u32;
+            }
+            _ => self.emit_loop(6)?,
+        }
+        Some(())
+    }
+
+    fn emit_some(&mut self, most: usize) {
+        for _ in 0..self.rng.between(1, most) {
+            self.emit();
+        }
+    }
+
+    fn emit_check(&mut self, numbers: &[u8], pointers: &[u8]) -> Option<()> {
+        let b = self.rng.pick(pointers)?;
+        if self.rng.percent(4) {
+            // From any pointer or number: often fails.
+            let sources = [pointers, &self.integers[..]].concat();
+            let check = self.pick_pair(22, pointers, &sources)?;
+            self.code.push(check);
+            self.set_filled(check.a, true);
+            return Some(());
+        }
+        let number = self.rng.pick(numbers)?;
+        self.fill(b)?;
+        self.code.push(instruction(21, number, b, 0, 0));
+        let alike: Vec<u8> = {
+            let copy = |a: u8| instruction(17, a, b, 0, 0);
+            pointers.iter().copied().filter(|&a| self.typed(&copy(a))).collect()
+        };
+        // A pointer of the same type, or one to what a field would give.
+        let same_region = self.pick_field(pointers, &[b]).map(|field| field.a);
+        let a = if self.rng.percent(85) { self.rng.pick(&alike) } else { same_region };
+        let a = a.or_else(|| self.rng.pick(&alike))?;
+        if self.rng.percent(5) {
+            let c = self.rng.pick(numbers).filter(|&c| c != number)?;
+            let value = self.rng.pick(&[1, 2, 4, 5, 8, 12, 16])?;
+            self.constant(c, value);
+            self.code.push(instruction(18, number, number, c, 0));
+        }
+        self.code.push(instruction(22, a, number, 0, 0));
+        self.set_filled(a, true);
+        Some(())
+    }
+
+    fn emit_call(&mut self) -> Option<()> {
+        let calls = self.calls;
+        let chosen = self.rng.below(calls.len() + 1);
+        let PlannedCall { callee, regions } = calls.get(chosen)?;
+        let signature = &self.module.functions[*callee];
+        let mut call = instruction(KIND_CALL, 0, *callee as u8, 0, builder::packed(regions));
+        let all: Vec<u8> = (0..self.function.register_types.len() as u8).collect();
+        let put: Vec<Variable> = regions.iter().map(|&region| Variable(region)).collect();
+        let types = &signature.register_types[..signature.parameters];
+        for (i, &written) in types.iter().enumerate() {
+            let wanted = self.typing.types.term(written, &put);
+            let fits = |&register: &u8| self.typing.register(register) == wanted;
+            let fitting: Vec<u8> = all.iter().copied().filter(fits).collect();
+            call.arguments[i] = self.rng.pick(&fitting)?;
+            if self.pointers.contains(&call.arguments[i]) {
+                let _may_stay_zero = self.fill(call.arguments[i]);
+            }
+        }
+        let wanted = self.typing.types.term(signature.return_term, &put);
+        let results = self.free_of(&all);
+        let fits = |&register: &u8| self.typing.register(register) == wanted;
+        call.a = self.rng.pick(&results.into_iter().filter(fits).collect::<Vec<u8>>())?;
+        self.code.push(call);
+        self.set_filled(call.a, false);
+        Some(())
+    }
+
+    /// Counts a register down to zero around some instructions.
+    fn emit_loop(&mut self, body: usize) -> Option<()> {
+        let numbers = self.i32_registers();
+        let (counter, one) = (*numbers.first()?, *numbers.get(1)?);
+        if self.reserved.len() >= 4 || numbers.len() < 3 {
+            return None;
+        }
+        let rounds = match self.rng.below(100) {
+            0..80 => self.rng.between(1, 6),
+            80..96 => self.rng.between(7, 90),
+            _ => 5000,
+        };
+        self.constant(counter, rounds as u32);
+        self.constant(one, 1);
+        self.reserved.extend([counter, one]);
+        let start = self.code.len() as u32;
+        self.emit_some(body);
+        self.reserved.truncate(self.reserved.len() - 2);
+        self.code.push(instruction(18, counter, counter, one, code::SUBTRACT));
+        self.code.push(instruction(32, counter, 0, 0, start));
+        Some(())
+    }
+
+    /// Runs into one of the limits: pages, output, frames.
+    fn emit_limit(&mut self) -> Option<()> {
+        let pointers = self.pointers.clone();
+        let integers = self.integers.clone();
+        let at = self.code.len() as u32;
+        let endless = match self.rng.below(3) {
+            0 => self.pick_pair(27, &pointers, &[0])?,
+            1 => self.pick_pair(30, &[0], &integers)?,
+            _ => return self.emit_call(),
+        };
+        self.code.push(endless);
+        self.code.push(instruction(31, 0, 0, 0, at));
+        Some(())
+    }
+
+    fn emit_body(mut self, length: usize) -> Vec<Instruction> {
+        self.emit_some(length);
+        if self.rng.percent(4) {
+            self.emit_limit();
+        }
+        if self.rng.percent(2) {
+            let target = self.rng.below(self.code.len().max(1)) as u32;
+            self.code.push(instruction(31, 0, 0, 0, target));
+            return self.code;
+        }
+        let all: Vec<u8> = (0..self.function.register_types.len() as u8).collect();
+        let result = self.pick_pair(34, &all, &[0]).expect("a register has the return type");
+        self.code.push(result);
+        self.code
+    }
+}
+
+fn draw_code(
+    rng: &mut Prng,
+    module: &Module,
+    function: &Function,
+    calls: &[PlannedCall],
+    length: usize,
+) -> Vec<Instruction> {
+    let mut types = Types::new(module);
+    let typing = Typing::new(module, &mut types, function);
+    let (mut integers, mut pointers) = (Vec::new(), Vec::new());
+    for register in 0..function.register_types.len() as u8 {
+        match typing.types.get(typing.register(register)) {
+            Type::Integer(_) => integers.push(register),
+            _ => pointers.push(register),
+        }
+    }
+    let emitter = Emitter {
+        rng,
+        module,
+        typing,
+        function,
+        calls,
+        integers,
+        pointers,
+        filled: [false; MAX_REGISTERS],
+        reserved: Vec::new(),
+        code: Vec::new(),
+    };
+    emitter.emit_body(length)
+}
+
+/// A module that nearly always is accepted, with arguments and a form.
+pub fn draw(rng: &mut Prng) -> Sample {
+    let mut module = draw_types(rng);
+    let count = rng.between(1, 5);
+    // Callees first: a function's regions are chosen to fit those it calls.
+    let mut drawn: Vec<(usize, Function)> = Vec::new();
+    let mut calls = Vec::new();
+    for number in (0..count).rev() {
+        let (function, planned) = draw_function(rng, &mut module, number, &drawn);
+        drawn.push((number, function));
+        calls.push(planned);
+    }
+    drawn.reverse();
+    calls.reverse();
+    module.functions = drawn.into_iter().map(|(_, function)| function).collect();
+    for (number, planned) in calls.iter_mut().enumerate() {
+        // Every function can call itself for its own regions; function 0 can be called by all.
+        let own = module.functions[number].region_parameters as u8;
+        if rng.percent(12) {
+            planned.push(PlannedCall { callee: number, regions: (0..own).collect() });
+        }
+        if rng.percent(5) {
+            planned.push(PlannedCall { callee: 0, regions: vec![] });
+        }
+    }
+    let mut codes = Vec::new();
+    for (number, function) in module.functions.iter().enumerate() {
+        let length = if number == 0 { 40 } else { 16 };
+        codes.push(draw_code(rng, &module, function, &calls[number], length));
+    }
+    for (function, code) in module.functions.iter_mut().zip(codes) {
+        function.code = code;
+    }
+    let words = module.functions[0].parameters;
+    let arguments = (0..words).flat_map(|_| {
+        let word = if rng.percent(70) { rng.below(20) as u32 } else { rng.word() as u32 };
+        word.to_le_bytes()
+    });
+    let arguments = arguments.collect();
+    let least = if rng.percent(90) { 8 } else { 0 };
+    let form_length = rng.between(least, 40);
+    Sample { records: records(&module), arguments, form: rng.bytes(form_length) }
+}
+
+/// The records of a module.
+pub fn records(module: &Module) -> Vec<Record> {
+    let mut builder = ModuleBuilder::new();
+    for term in &module.terms {
+        match term {
+            Term::Integer { width } => builder.integer(*width),
+            Term::Pointer { target, region } => builder.pointer(*target, *region),
+            Term::Array { element, count } => builder.array(*element, *count),
+            Term::Name { name, arguments } => builder.name_term(*name, arguments),
+        };
+    }
+    for name in &module.names {
+        builder.name(name.regions as u8, &name.fields);
+    }
+    for function in &module.functions {
+        let mut code = Vec::new();
+        for i in &function.code {
+            code.push(builder::record(i.kind, i.a, i.b, i.c, i.d));
+            if i.kind == KIND_CALL {
+                code.push(builder::list_record(KIND_ARGUMENTS, &i.arguments));
+            }
+        }
+        builder.function(&FunctionBuilder {
+            region_parameters: function.region_parameters as u8,
+            regions: function.region_types.clone(),
+            parameters: function.parameters as u8,
+            registers: function.register_types.clone(),
+            return_term: function.return_term,
+            code,
+        });
+    }
+    builder.records()
+}

@@ -1,0 +1,19 @@
+//! A reference interpreter of region-checked modules, written from document 01 alone.
+//! It shares no text and no definition with the proved code, so that an error of either shows
+//! as a difference between the two.
+
+pub mod builder;
+pub mod checker;
+pub mod compare;
+pub mod corpus;
+pub mod damage;
+pub mod file;
+pub mod generator;
+pub mod host;
+pub mod machine;
+pub mod module;
+pub mod prng;
+pub mod state;
+pub mod state_test;
+pub mod tally;
+pub mod types;

@@ -1,0 +1,86 @@
+//! A module with its buffers, as the tests of the machine and of the state run it, and the terms
+//! that their modules begin with. Each test file uses a part of it.
+#![allow(dead_code)]
+
+use reference::builder::{FunctionBuilder, ModuleBuilder};
+use reference::file::Record;
+use reference::host::{self, Answer};
+use reference::state::{State, OUTPUT_BYTES, STATE_BYTES};
+
+pub const I32: u8 = 0;
+pub const I8: u8 = 1;
+pub const I16: u8 = 2;
+
+/// Terms 0 i32, 1 i8, 2 i16.
+pub fn integers() -> ModuleBuilder {
+    let mut module = ModuleBuilder::new();
+    for width in [4, 1, 2] {
+        module.integer(width);
+    }
+    module
+}
+
+/// Function 0 without parameters.
+pub fn main_function(regions: &[u8], registers: &[u8], code: &[Record]) -> FunctionBuilder {
+    FunctionBuilder {
+        regions: regions.to_vec(),
+        registers: registers.to_vec(),
+        return_term: I32,
+        code: code.to_vec(),
+        ..FunctionBuilder::default()
+    }
+}
+
+#[derive(Clone)]
+pub struct Session {
+    pub file: Vec<u8>,
+    pub state: Vec<u8>,
+    pub output: Vec<u8>,
+}
+
+impl Session {
+    pub fn open(file: Vec<u8>, arguments: &[u32]) -> Session {
+        let mut state = vec![0xee; STATE_BYTES];
+        let bytes: Vec<u8> = arguments.iter().flat_map(|word| word.to_le_bytes()).collect();
+        assert_eq!(host::check(&file)[0], host::GOOD, "{:?}", host::check(&file));
+        assert_eq!(host::open(&file, &bytes, &mut state), [host::GOOD, 0, 0, 0]);
+        Session { file, state, output: vec![0; OUTPUT_BYTES] }
+    }
+
+    pub fn go(&mut self, budget: u64) -> Answer {
+        self.go_with(&[], budget)
+    }
+
+    pub fn go_with(&mut self, form: &[u8], budget: u64) -> Answer {
+        host::go(&self.file, form, &mut self.state, &mut self.output, budget)
+    }
+
+    pub fn test(&self) -> Answer {
+        host::test(&self.file, &self.state)
+    }
+
+    pub fn passes(&self) -> bool {
+        self.test() == [host::GOOD, 0, 0, 0]
+    }
+
+    pub fn object(&self, address: u32) -> Option<(u64, u64)> {
+        let answer = host::object(&self.file, &self.state, address);
+        (answer[0] == host::GOOD).then(|| (answer[1] - 8192, answer[2]))
+    }
+
+    pub fn view(&self) -> State {
+        State::from_bytes(&self.state).expect("a state")
+    }
+
+    /// A register of the top frame.
+    pub fn register(&self, register: usize) -> u32 {
+        self.view().frames.last().expect("a frame").registers[register]
+    }
+}
+
+/// Opens and runs to the end a module of function 0 alone.
+pub fn run(module: &ModuleBuilder, function: &FunctionBuilder) -> Answer {
+    let mut module = module.clone();
+    module.function(function);
+    Session::open(module.file(), &[]).go(1_000_000)
+}

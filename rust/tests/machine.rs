@@ -1,0 +1,490 @@
+//! The machine: the small cases C1 to C10, every stop, opening, going on and the program's worked
+//! module, by hand.
+
+mod common;
+
+use common::{integers, main_function, run, Session, I16, I32, I8};
+use reference::builder::{code, file, record, FunctionBuilder, ModuleBuilder};
+use reference::file::{block_check, Record};
+use reference::host::{self, Answer};
+use reference::module::decode;
+use reference::types::{sizes, Types, Variable};
+
+fn ended(value: u32, steps: u64) -> Answer {
+    [host::ENDED, u64::from(value), steps, 0]
+}
+
+fn stopped(number: u64, steps: u64) -> Answer {
+    [host::STOPPED, number, steps, 0]
+}
+
+fn running(steps: u64) -> Answer {
+    [host::STILL_RUNNING, 0, steps, 0]
+}
+
+/// Runs code over registers 0, 1, 2 of one integer type, 3 of i8 and 4 of i32; register 4 is
+/// returned.
+fn run_numbers(term: u8, code: &[Record]) -> Answer {
+    let code = [code, &[code::ret(4)]].concat();
+    run(&integers(), &main_function(&[], &[term, term, term, I8, I32], &code))
+}
+
+/// The result of an operation, zero-extended.
+fn operate(term: u8, operation: u32, b: u32, c: u32) -> Answer {
+    let result = if operation > 10 { 3 } else { 0 };
+    run_numbers(
+        term,
+        &[
+            code::constant(1, b),
+            code::constant(2, c),
+            code::operation(operation, result, 1, 2),
+            code::zero_extend(4, result),
+        ],
+    )
+}
+
+#[test]
+fn worked_module() {
+    let records = [
+        record(1, 4, 0, 0, 0),
+        Record([7, 0, 0, 1, 0, 0, 2, 0]),
+        record(9, 0, 0, 0, 0),
+        record(16, 0, 0, 0, 42),
+        record(34, 0, 0, 0, 0),
+    ];
+    let file = file(&records);
+    assert_eq!(block_check(&file), 3474);
+    assert_eq!(host::check(&file), [host::GOOD, 1, 0, 65_536 + 2]);
+    assert_eq!(Session::open(file, &[]).go(1_000_000), ended(42, 2));
+}
+
+#[test]
+fn c1_c2_flat_types() {
+    let mut module = integers();
+    let inner = module.pointer(I32, 0); // 3
+    let term = module.name_term(0, &[2]); // 4
+    let packed = module.name_term(1, &[]); // 5
+    let pair = module.pointer(I32, 2); // 6
+    module.name(1, &[I32, inner]);
+    module.name(0, &[I8, I32]);
+    module.function(&main_function(&[], &[I32], &[code::ret(0)]));
+    let module = decode(&module.file()).expect("a module");
+    assert_eq!(sizes(&module).terms[usize::from(packed)], 5);
+    let mut types = Types::<Variable>::new(&module);
+    let written = reference::types::IDENTITY;
+    let (name, int, pointer) =
+        (types.term(term, &written), types.term(I32, &written), types.term(pair, &written));
+    assert_eq!(types.primitives(name)[..], [int, pointer]);
+}
+
+/// One region of a type, registers 0 i32, 1 pointer to it, 2 and 3 i32.
+fn one_region(module: &mut ModuleBuilder, object: u8, code: &[Record]) -> FunctionBuilder {
+    let pointer = module.pointer(object, 0);
+    main_function(&[object], &[I32, pointer, I32, I32], code)
+}
+
+fn session(mut module: ModuleBuilder, function: &FunctionBuilder) -> Session {
+    module.function(function);
+    Session::open(module.file(), &[])
+}
+
+#[test]
+fn c1_places_to_a_page() {
+    let mut module = integers();
+    let object = module.name_term(0, &[]);
+    module.name(0, &[I8, I32]);
+    let function = one_region(&mut module, object, &[code::new(1), code::jump(0)]);
+    let mut session = session(module, &function);
+    session.go(2 * 51 - 1);
+    assert_eq!(session.register(1), 256 + 50 * 5);
+    session.go(2);
+    assert_eq!(session.register(1), 512);
+    assert_eq!(session.object(256 + 4), Some((256, 5)));
+    assert_eq!(session.object(256 + 254), Some((256 + 250, 5)));
+    assert_eq!(session.object(256 + 255), None);
+}
+
+#[test]
+fn c4_places_are_reused_with_their_bytes() {
+    let mut module = integers();
+    let mut function = one_region(&mut module, I32, &[]);
+    function.registers.push(function.registers[1]);
+    function.code = vec![
+        code::new(1),
+        code::new(4),
+        code::constant(0, 77),
+        code::store(1, 0),
+        code::free(1),
+        code::free(1),
+        code::new(1),
+        code::load(2, 1),
+        code::ret(2),
+    ];
+    let mut session = session(module, &function);
+    assert_eq!(session.go(2), running(2));
+    assert_eq!((session.register(1), session.register(4)), (256, 260));
+    session.go(2);
+    assert_eq!(session.view().marks[1][0], 3);
+    session.go(2);
+    assert_eq!(session.view().marks[1][0], 2);
+    session.go(1);
+    assert_eq!(session.register(1), 256);
+    assert_eq!(session.go(9), ended(77, 2));
+    // The page's bytes last until the next grant.
+    let view = session.view();
+    assert_eq!((view.owned_pages(), view.marks[1], view.memory[256]), (0, [0; 4], 77));
+}
+
+#[test]
+fn c5_checks() {
+    let check = |address: u32| {
+        let mut module = integers();
+        let code = [
+            code::new(1),
+            code::new(1),
+            code::constant(0, address),
+            code::check(1, 0),
+            code::to_number(2, 1),
+            code::ret(2),
+        ];
+        let function = one_region(&mut module, I32, &code);
+        run(&module, &function)
+    };
+    assert_eq!(check(260), ended(260, 6));
+    assert_eq!(check(508), ended(508, 6));
+    for address in [0, 4, 258, 512, 16_384, 65_536 + 260, u32::MAX] {
+        assert_eq!(check(address), stopped(32, 4), "{address}");
+    }
+}
+
+#[test]
+fn checks_do_not_match_across_objects() {
+    // Objects {i8; i32; i8}: the run i8, i8 lies in none, though two objects have it side by side.
+    let check = |address: u32, target_fields: &[u8]| {
+        let mut module = integers();
+        let object = module.name_term(0, &[]);
+        let target = module.name_term(1, &[]);
+        let pointer = module.pointer(target, 0);
+        module.name(0, &[I8, I32, I8]);
+        module.name(0, target_fields);
+        let mut function = one_region(&mut module, object, &[]);
+        function.registers.push(pointer);
+        function.code =
+            vec![code::new(1), code::constant(0, address), code::check(4, 0), code::ret(0)];
+        run(&module, &function)[0] == host::ENDED
+    };
+    assert!(!check(256 + 5, &[I8, I8]));
+    assert!(check(256 + 5, &[I8]) && check(256 + 6, &[I8]) && !check(256 + 2, &[I8]));
+    assert!(check(256, &[I8, I32]) && check(256 + 1, &[I32, I8]) && !check(256, &[I32, I8]));
+    // 42 objects of 6 bytes; none in the last 4 bytes of the page.
+    assert!(check(256 + 246, &[I8]) && !check(256 + 252, &[I8]));
+}
+
+#[test]
+fn c6_c7_c8_operations() {
+    let nearest = |dividend: i32, divisor: i32| {
+        operate(I32, code::SIGNED_QUOTIENT, dividend as u32, divisor as u32)
+    };
+    assert_eq!(nearest(5, 2), ended(3, 5));
+    assert_eq!(nearest(-5, 2), ended(-3_i32 as u32, 5));
+    assert_eq!(nearest(7, -2), ended(-4_i32 as u32, 5));
+    assert_eq!(nearest(1, 3), ended(0, 5));
+    assert_eq!(nearest(2, 3), ended(1, 5));
+    assert_eq!(nearest(i32::MIN, 1), ended(i32::MIN as u32, 5));
+    assert_eq!(nearest(i32::MIN, 2), ended(0xc000_0000, 5));
+    assert_eq!(nearest(i32::MIN, i32::MIN), ended(1, 5));
+    assert_eq!(nearest(i32::MAX, i32::MIN), ended(u32::MAX, 5));
+    assert_eq!(nearest(i32::MIN, -1), stopped(36, 3));
+    assert_eq!(nearest(3, 0), stopped(36, 3));
+    assert_eq!(operate(I32, 0, u32::MAX, 1), ended(0, 5));
+    assert_eq!(operate(I8, 0, 255, 2), ended(1, 5));
+    assert_eq!(operate(I16, 1, 0, 1), ended(65_535, 5));
+    assert_eq!(operate(I32, 2, 65_536, 65_537), ended(65_536, 5));
+    assert_eq!(operate(I8, 3, 12, 10), ended(8, 5));
+    assert_eq!(operate(I8, 4, 12, 10), ended(14, 5));
+    assert_eq!(operate(I8, 5, 12, 10), ended(6, 5));
+    assert_eq!(operate(I8, 6, 255, 7), ended(128, 5));
+    assert_eq!(operate(I32, 7, 1 << 31, 31), ended(1, 5));
+    assert_eq!(operate(I16, 8, 65_535, 2), ended(32_767, 5));
+    assert_eq!(operate(I16, 9, 65_535, 4), ended(3, 5));
+    assert_eq!(operate(I16, 11, 7, 7), ended(1, 5));
+    assert_eq!(operate(I16, 11, 7, 8), ended(0, 5));
+    assert_eq!(operate(I8, 12, 127, 128), ended(1, 5));
+    assert_eq!(operate(I8, 13, 127, 128), ended(0, 5));
+    assert_eq!(operate(I8, 13, 128, 127), ended(1, 5));
+    assert_eq!(operate(I32, 13, u32::MAX, 0), ended(1, 5));
+}
+
+#[test]
+fn stops_36_and_37() {
+    for operation in [8, 9] {
+        assert_eq!(operate(I16, operation, 1, 0), stopped(36, 3));
+    }
+    for (term, bits) in [(I8, 8), (I16, 16), (I32, 32)] {
+        for operation in [6, 7] {
+            assert_eq!(operate(term, operation, 1, bits), stopped(37, 3));
+            assert_eq!(operate(term, operation, 0, bits - 1), ended(0, 5));
+        }
+    }
+}
+
+#[test]
+fn extensions() {
+    let extend = |kind: fn(u8, u8) -> Record, term: u8, value: u32| {
+        run_numbers(term, &[code::constant(0, value), kind(4, 0)])
+    };
+    assert_eq!(extend(code::zero_extend, I8, 255), ended(255, 3));
+    assert_eq!(extend(code::sign_extend, I8, 255), ended(u32::MAX, 3));
+    assert_eq!(extend(code::sign_extend, I16, 0x7fff), ended(0x7fff, 3));
+    assert_eq!(extend(code::sign_extend, I16, 0x8000), ended(0xffff_8000, 3));
+    assert_eq!(extend(code::sign_extend, I32, 0x8000_0000), ended(0x8000_0000, 3));
+    // Cut to i8, then seen again as i32.
+    let cut = [code::constant(0, 0x1_80), code::sign_extend(3, 0), code::zero_extend(4, 3)];
+    assert_eq!(run_numbers(I32, &cut), ended(0x80, 4));
+}
+
+#[test]
+fn c9_frames() {
+    // Function 0 calls itself until its argument is zero.
+    let deep = |calls: u32| {
+        let mut module = integers();
+        let mut code = vec![code::branch(0, 2), code::ret(0), code::constant(1, 1)];
+        code.push(code::operation(code::SUBTRACT, 0, 0, 1));
+        code.extend(code::call(1, 0, &[], &[0]));
+        code.push(code::ret(0));
+        let mut function = main_function(&[], &[I32, I32], &code);
+        function.parameters = 1;
+        module.function(&function);
+        Session::open(module.file(), &[calls])
+    };
+    let mut session = deep(15);
+    assert_eq!(session.go(15 * 4), running(60));
+    assert_eq!(session.view().frames.len(), 16);
+    assert_eq!(session.go(1000), ended(14, 2 + 15));
+    let mut session = deep(16);
+    assert_eq!(session.go(1000), stopped(35, 64));
+    assert_eq!(session.view().frames.len(), 16);
+    assert!(session.passes());
+}
+
+#[test]
+fn c10_budgets() {
+    let mut session = session(integers(), &main_function(&[], &[I32], &[code::ret(0)]));
+    let opened = session.state.clone();
+    assert_eq!(session.go(0), running(0));
+    assert_eq!(session.state, opened);
+    // The budget is used up by the last step: ended, not running.
+    assert_eq!(session.go(1), ended(0, 1));
+    assert_eq!(session.go(0), [host::REFUSED, 22, 0, 0]);
+    assert_eq!(session.go(u64::MAX), [host::REFUSED, 22, 0, 0]);
+}
+
+#[test]
+fn pages_run_out_with_34() {
+    let mut module = integers();
+    let function = one_region(&mut module, I32, &[code::new(1), code::jump(0)]);
+    let mut session = session(module, &function);
+    assert_eq!(session.go(2 * 4032), running(2 * 4032));
+    assert_eq!(session.register(1), 16_380);
+    let before = session.clone();
+    assert_eq!(session.go(5), stopped(34, 1));
+    // A stop changes only the status.
+    let mut expected = before.state.clone();
+    expected[0] = 34;
+    assert!(session.state == expected && session.output == before.output);
+    assert!(session.passes());
+    assert_eq!(session.go(1), [host::REFUSED, 22, 0, 0]);
+}
+
+#[test]
+fn a_freed_place_prevents_34() {
+    let mut module = integers();
+    let block = module.array(I32, 64);
+    let code = [
+        code::new(1),
+        code::constant(3, 1),
+        code::operation(code::ADD, 0, 0, 3),
+        code::constant(3, 63),
+        code::operation(code::SUBTRACT, 2, 0, 3),
+        code::branch(2, 0),
+        code::free(1),
+        code::new(1),
+        code::new(1),
+        code::ret(0),
+    ];
+    let function = one_region(&mut module, block, &code);
+    let mut session = session(module, &function);
+    assert_eq!(session.go(10_000), stopped(34, 63 * 6 + 3));
+    assert_eq!(session.register(1), 63 * 256);
+}
+
+#[test]
+fn stops_31_and_33() {
+    let mut module = integers();
+    let several = module.array(I16, 3);
+    let element = module.pointer(I16, 0);
+    let attempt = |object: bool, instruction: Record, index: u32| {
+        let mut module = module.clone();
+        let mut function = one_region(&mut module, several, &[]);
+        function.registers.extend([element, I16]);
+        function.code = vec![
+            code::constant(0, index),
+            if object { code::new(1) } else { code::copy(1, 1) },
+            instruction,
+            code::to_number(2, 4),
+            code::ret(2),
+        ];
+        run(&module, &function)
+    };
+    // Adding a field offset to zero passes a first look.
+    assert_eq!(attempt(false, code::field(4, 1, 1), 0), stopped(31, 3));
+    assert_eq!(attempt(true, code::field(4, 1, 1), 0), ended(258, 5));
+    // 31 comes before 33.
+    assert_eq!(attempt(false, code::index(4, 1, 0), 9), stopped(31, 3));
+    assert_eq!(attempt(true, code::index(4, 1, 0), 2), ended(260, 5));
+    assert_eq!(attempt(true, code::index(4, 1, 0), 3), stopped(33, 3));
+    assert_eq!(attempt(true, code::index(4, 1, 0), u32::MAX), stopped(33, 3));
+    assert_eq!(attempt(true, code::load(5, 4), 0), stopped(31, 3));
+    assert_eq!(attempt(true, code::store(4, 5), 0), stopped(31, 3));
+    assert_eq!(attempt(false, code::free(1), 0), stopped(31, 3));
+}
+
+#[test]
+fn form_and_output() {
+    // Copies the form to the output until it ends.
+    let code = [
+        code::form(1, 0),
+        code::output(1),
+        code::constant(2, 1),
+        code::operation(code::ADD, 0, 0, 2),
+        code::jump(0),
+    ];
+    let mut session = session(integers(), &main_function(&[], &[I32, I8, I32], &code));
+    assert_eq!(session.go_with(b"abc", 1000), stopped(38, 16));
+    assert_eq!(&session.output[..4], b"abc\0");
+    assert_eq!(session.view().output_count, 3);
+    // A form is lent for a call: the next one may have another.
+    let mut session = self::session(integers(), &main_function(&[], &[I32, I8, I32], &code));
+    assert_eq!(session.go_with(b"ab", 7), running(7));
+    assert_eq!(session.go_with(b"xyz", 5), running(5));
+    assert_eq!(&session.output[..3], b"abz");
+}
+
+#[test]
+fn output_full_stops_with_39() {
+    let code = [code::constant(1, 7), code::output(1), code::jump(1)];
+    let mut session = session(integers(), &main_function(&[], &[I32, I8], &code));
+    assert_eq!(session.go(1 + 2 * 4096), running(1 + 2 * 4096));
+    assert!(session.output.iter().all(|&byte| byte == 7));
+    assert_eq!(session.go(10), stopped(39, 1));
+    assert_eq!(session.view().output_count, 4096);
+    assert!(session.passes());
+}
+
+#[test]
+fn calls_with_regions() {
+    // Function 1 makes an object in the region it is given and one in its own, and returns the
+    // first; its own region is closed by the return and numbered after the caller's.
+    let mut module = integers();
+    let near = module.pointer(I32, 0);
+    let local = module.pointer(I16, 1);
+    let mut caller = main_function(&[I32, I16], &[I32, near, I32], &[]);
+    caller.code.extend(code::call(1, 1, &[0], &[2]));
+    caller.code.extend([code::load(0, 1), code::ret(0)]);
+    module.function(&caller);
+    module.function(&FunctionBuilder {
+        region_parameters: 1,
+        regions: vec![I32, I16],
+        parameters: 1,
+        registers: vec![I32, near, local, I32],
+        return_term: near,
+        code: vec![
+            code::new(2),
+            code::new(1),
+            code::constant(3, 9),
+            code::store(1, 3),
+            code::ret(1),
+        ],
+    });
+    let mut session = Session::open(module.file(), &[]);
+    session.go(5);
+    let view = session.view();
+    let map: Vec<u8> = view.frames[1].map.iter().map(|live| live.0).collect();
+    assert_eq!(map, [0, 2, 0, 0, 0, 0, 0]);
+    assert_eq!(view.frames[0].instruction, 0);
+    assert_eq!(
+        (view.owners[1].map(|owner| owner.0), view.owners[2].map(|owner| owner.0)),
+        (Some(2), Some(0))
+    );
+    assert!(session.passes());
+    session.go(1);
+    let view = session.view();
+    assert_eq!((view.owned_pages(), view.owners[1], view.marks[1]), (1, None, [0; 4]));
+    assert_eq!((view.frames.len(), view.frames[0].instruction), (1, 1));
+    assert_eq!(session.register(1), 512);
+    assert_eq!(session.object(513), Some((512, 4)));
+    assert_eq!(session.object(256), None);
+    assert_eq!(session.go(100), ended(9, 2));
+}
+
+#[test]
+fn checks_where_a_region_is_given_twice() {
+    // {i32 pointer in 0} and {i32 pointer in 1} are alike exactly when both are one live region.
+    let check = |second: u8| {
+        let mut module = integers();
+        let near = module.pointer(I32, 0); // 3
+        let far = module.pointer(I32, 1); // 4
+        let holder = module.pointer(near, 2); // 5
+        let other = module.pointer(far, 2); // 6
+        let near_0 = module.pointer(near, 1); // 7: the holder's region in the caller is 1
+        let mut caller = main_function(&[I32, near, I32], &[I32, near_0], &[]);
+        caller.code = vec![code::new(1)];
+        caller.code.extend(code::call(0, 1, &[0, second, 1], &[]));
+        caller.code.push(code::ret(0));
+        module.function(&caller);
+        module.function(&FunctionBuilder {
+            region_parameters: 3,
+            regions: vec![I32, I32, near],
+            parameters: 0,
+            registers: vec![I32, holder, other],
+            return_term: I32,
+            code: vec![code::new(1), code::check(2, 1), code::ret(0)],
+        });
+        Session::open(module.file(), &[]).go(100)
+    };
+    assert_eq!(check(0), ended(0, 6));
+    assert_eq!(check(2), stopped(32, 4));
+}
+
+#[test]
+fn refusals_of_the_calls() {
+    let mut module = integers();
+    let mut function = main_function(&[], &[I32, I32], &[code::ret(0)]);
+    function.parameters = 2;
+    module.function(&function);
+    let file = module.file();
+    let mut state = vec![5; 24_576];
+    let refused = |number: u64| [host::REFUSED, number, 0, 0];
+    // 9 before 20, and nothing changes.
+    assert_eq!(host::open(&file, &[0; 7], &mut state), refused(9));
+    assert_eq!(host::open(&file, &[0; 9], &mut state[1..]), refused(9));
+    assert_eq!(host::open(&file, &[0; 8], &mut state[1..]), refused(20));
+    assert!(state.iter().all(|&byte| byte == 5));
+    assert_eq!(host::open(&file, &[1, 2, 3, 4, 5, 6, 7, 8], &mut state)[0], host::GOOD);
+    let mut output = vec![3; 4096];
+    let opened = state.clone();
+    let long = vec![0; 4097];
+    assert_eq!(host::go(&file, &long, &mut state, &mut output[1..], 1), refused(9));
+    assert_eq!(host::go(&file, &[], &mut state[1..], &mut output, 1), refused(20));
+    assert_eq!(host::go(&file, &[], &mut state, &mut output[1..], 1), refused(20));
+    assert_eq!(host::go(&file[1..], &long, &mut state, &mut output, 1), refused(1));
+    assert_eq!(host::test(&file, &state[1..]), refused(20));
+    assert_eq!(host::object(&file, &state[1..], 256), [0; 4]);
+    assert!(state == opened && output.iter().all(|&byte| byte == 3));
+    let full = vec![0; 4096];
+    let answer = host::go(&file, &full, &mut state, &mut output, 1);
+    assert_eq!(answer, ended(0x0403_0201, 1));
+    // A long form on an ended state is 9.
+    assert_eq!(host::go(&file, &long, &mut state, &mut output, 0), refused(9));
+    assert_eq!(host::go(&file, &full, &mut state, &mut output, 0), refused(22));
+}
