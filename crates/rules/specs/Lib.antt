@@ -32,3 +32,4 @@ pub mod CasesFile
 pub mod CaseStates
 pub mod CasesStep
 pub mod CasesMachine
+pub mod CasesTest
