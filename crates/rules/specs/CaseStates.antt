@@ -35,7 +35,7 @@ functionWith p l regionTypes q registerTypes code = record {
   result = int 4;
   regionType = λ i. getD regionTypes i (int 1);
   registerType = λ a. getD registerTypes a (int 1);
-  length = length code;
+  codeLength = length code;
   code = λ i. getD code i callPair;
 }
 

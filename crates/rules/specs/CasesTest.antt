@@ -9,7 +9,7 @@ use lib.Dec.{ltb}
 use lib.ListN.{getD, replicate}
 use Rattle.words.specs.First.{firstFrom, first}
 use Rattle.rules.specs.Limits.{pageBytes}
-use Rattle.rules.specs.Decide.{does, decBoth, decEither, decImp, decNot, decAll, decAny, mapDec, decList, decEach}
+use Rattle.words.specs.Decide.{does, decBoth, decEither, decImp, decNot, decAll, decAny, mapDec, decList, decEach}
 use Rattle.rules.specs.Types.{region, int, ptr, decRegion, sub, decTree}
 use Rattle.rules.specs.Module.{call, return, Module}
 use Rattle.rules.specs.State.{View, memoryNumber}

@@ -1,6 +1,5 @@
 -- Document 01's base, in its order: what must be believed.
 pub mod Limits
-pub mod Decide
 -- the module file and its rules
 pub mod Stages
 pub mod File

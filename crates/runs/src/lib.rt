@@ -4,7 +4,7 @@
 ghost use mathlib.Core.Path.{_≡_};
 ghost use Prim.Native.Nat.{ℕ, _+_, _*_, _/_, _<_, _≤_};
 ghost use lib.ListN.{length};
-ghost use Rattle.rules.specs.Decide.{does};
+ghost use Rattle.words.specs.Decide.{does};
 ghost use Rattle.rules.specs.Types.{variable, live, sub};
 ghost use Rattle.rules.specs.Flat.{flat, count, size, distance, positionAt, decPlaced, decRun, decSame, moved};
 ghost use Rattle.rules.specs.Decode.{moduleOf};
