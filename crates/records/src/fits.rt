@@ -6,7 +6,7 @@ ghost use Prim.Native.Nat.{_<_};
 ghost use lib.Dec.{eqb};
 ghost use Rattle.rules.specs.File.{isTerm, kindName, kindFunction};
 ghost use Rattle.rules.specs.Walk.{whole, namesEnd, isEnd};
-ghost use Rattle.rules.specs.Records.{isFiller, integerFits, pointerFits, arrayFits, structFits, termFits, nameFits, headRanges, functionFits, listFits, regionBytesFit, calleeFits, instructionFits, argumentsFit, fitsIn, fits, endFits};
+ghost use Rattle.rules.specs.Records.{isFiller, integerFits, pointerFits, arrayFits, structFits, termFits, nameFits, headRanges, functionFits, listFits, regionBytesFit, calleeFits, instructionFits, argumentsFit, fits, endFits};
 ghost use Rattle.walk.specs.Scan.{callees};
 ghost use Rattle.walk.specs.Tables.{startsOf};
 use crate::operands::classes;
