@@ -5,14 +5,14 @@ use mathlib.Core.Bool.{Bool, true, false, _&&_, not, cond}
 use mathlib.Core.List.{List, [], _∷_, map}
 use Prim.Native.Nat.{ℕ, zero, suc, _+_, _-_, _*_, _/_, _%_, _≤_, _<_}
 use native.Mathlib.Decide.{ℕ-discrete, decLt, decLe}
-use native.Mathlib.Nat.{zero-add}
+use native.Mathlib.Nat.{mul-comm}
 use native.Mathlib.Omega.{arith}
 use lib.Dec.{eqb, ltb, leb}
 use lib.ListN.{length, getD, List·getD-map}
 use lib.Seq.{take-all}
-use borrow.Author.Tests.{eq-eqb, ne-eqb, eqb-true, eqb-false}
+use borrow.Author.Tests.{eq-eqb, ne-eqb, eqb-true, lt-ltb, le-ltb, ltb-true, le-leb, lt-leb, leb-true}
 use Rattle.words.specs.Bytes.{Bytes}
-use Rattle.words.specs.Choose.{false-by, true-not-false, lt-or-le, bool-same}
+use Rattle.words.specs.Choose.{false-by, true-not-false, lt-or-le, bool-same, and-no}
 use Rattle.words.specs.First.{first}
 use Rattle.words.specs.FirstLaws.{first-is}
 use Rattle.rules.specs.Decide.{does, does-true, decBoth, mapDec}
@@ -22,7 +22,9 @@ use Rattle.rules.specs.Flat.{Placed, at, off, type, Layout, count, none, moved,
 use Rattle.rules.specs.Decode.{moduleOf}
 use Rattle.layout.specs.Types.{sub-sub}
 use Rattle.layout.specs.Prims.{nth, moved-zero, moved-off, placed-off, count-sub, subLayout-size, subLayout-copies}
-use Rattle.layout.specs.Flat.{distance-zero}
+use Rattle.rules.specs.Limits.{pages, pageBytes}
+use Rattle.rules.specs.Heap.{HeapTyping, decStands}
+use Rattle.layout.specs.Flat.{distance-zero, size-sub}
 use Rattle.layout.specs.Runs.{Matches, run-matches, matches-run, Rising, flat-rising, nth-sub, distance-sub, position-sub}
 use Rattle.terms.specs.Heads.{placeOf, treeAt}
 use Rattle.terms.specs.Extents.{Counted}
@@ -325,3 +327,85 @@ module _ (f : Bytes) (n s : ℕ) (tab : List ℕ) (h : Table f n s tab) (u : ℕ
     w .0 ∙ same-run-from (L variable) (M variable) (count-L variable ∙ e ∙ sym (count-M variable)) (first-zero variable),
     w .1 ∙ same-run-from (L live) (M live) (count-L live ∙ e ∙ sym (count-M live)) (first-zero live),
   )
+
+-- ---- addresses
+
+-- the run of M stands at byte x of a page of objects of L: "inside", "sized", "fits" and "run" of `Stands`
+unfoldable pub inPage : {k : RegionKind} → Layout k → ℕ → Layout k → Bool
+inPage L x M = ltb 0 (L .size) && (leb (L .size * suc (x / L .size)) 256 && does (decRun L (positionAt L (x % L .size)) M))
+
+abbrev pub InPageIs : Bytes → ℕ → Bytes → ℕ → ℕ → Bytes → Bool → Type 0
+InPageIs f u p x t q r =
+    (r ≡ inPage (flat (moduleOf f) (sub (under {k = variable} p) (moduleOf f .term u))) x (flat (moduleOf f) (sub (under q) (moduleOf f .term t))))
+    × (r ≡ inPage (flat (moduleOf f) (sub (under {k = live} p) (moduleOf f .term u))) x (flat (moduleOf f) (sub (under q) (moduleOf f .term t))))
+
+-- for every heap typing in which the page of a has this owner and the region this type
+abbrev pub StandsIs : Bytes → ℕ → ℕ → ℕ → Bytes → ℕ → ℕ → Bytes → Bool → Type 0
+StandsIs f r owner u p a t q b =
+    (W : HeapTyping) → W .owner (a / pageBytes) ≡ owner → W .type r ≡ sub (under p) (moduleOf f .term u)
+    → b ≡ does (decStands (moduleOf f) W (sub (under q) (moduleOf f .term t)) r a)
+
+module _ {k : RegionKind} (L : Layout k) (x : ℕ) (M : Layout k) (sz : ℕ) (is : sz ≡ L .size) where
+  pub page-none : sz ≡ 0 → false ≡ inPage L x M
+  unfolding inPage
+  page-none e = let z : L .size ≡ 0 = sym is ∙ e in rw z refl
+
+  pub page-past : (sz ≡ 0 → ⊥) → 256 < x / sz * sz + sz → false ≡ inPage L x M
+  unfolding inPage
+  page-past d h =
+      let c = mul-comm (L .size) (suc (x / L .size)) in
+      let w : 256 < x / L .size * L .size + L .size = rw is at h in
+      sym (ap₂ (λ (a b : Bool). a && (b && does (decRun L (positionAt L (x % L .size)) M))) (lt-ltb 0 (L .size) (omega arith)) (lt-leb (L .size * suc (x / L .size)) 256 (omega arith)))
+
+  pub page-in : (sz ≡ 0 → ⊥) → x / sz * sz + sz ≤ 256 → (r : Bool) → r ≡ does (decRun L (positionAt L (x % sz)) M) → r ≡ inPage L x M
+  unfolding inPage
+  page-in d h r e =
+      let c = mul-comm (L .size) (suc (x / L .size)) in
+      let w : x / L .size * L .size + L .size ≤ 256 = rw is at h in
+      e ∙ ap (λ (s : ℕ). does (decRun L (positionAt L (x % s)) M)) is
+      ∙ sym (ap₂ (λ (a b : Bool). a && (b && does (decRun L (positionAt L (x % L .size)) M))) (lt-ltb 0 (L .size) (omega arith)) (le-leb (L .size * suc (x / L .size)) 256 (omega arith)))
+
+-- sizes do not depend on regions
+pub size-under : (k : RegionKind) (f p : Bytes) (t : ℕ) → size (moduleOf f) (moduleOf f .term t) ≡ size (moduleOf f) (sub (under {k = k} p) (moduleOf f .term t))
+size-under k f p t = sym (size-sub (under {k = k} p) (moduleOf f) (moduleOf f .term t))
+
+does-le : (m n : ℕ) → does (decLe m n) ≡ leb m n
+does-le m n = bool-same (does (decLe m n)) (leb m n) (λ e. le-leb m n (does-true (decLe m n) e)) (λ e. does-yes (decLe m n) (leb-true m n e))
+
+does-lt : (m n : ℕ) → does (decLt m n) ≡ ltb m n
+does-lt m n = bool-same (does (decLt m n)) (ltb m n) (λ e. lt-ltb m n (does-true (decLt m n) e)) (λ e. does-yes (decLt m n) (ltb-true m n e))
+
+stands-test : (m : Module) (W : HeapTyping) (T U : Tree live) (r a : ℕ) → W .type r ≡ U
+    → does (decStands m W T r a) ≡ (ltb (a / pageBytes) pages && eqb (W .owner (a / pageBytes)) (suc r)) && inPage (flat m U) (a % pageBytes) (flat m T)
+unfolding decStands inPage
+stands-test m W T U r a e =
+    let L : Layout live = flat m (W .type r) in
+    does-map _ _ (decBoth (decBoth (decLt (a / pageBytes) pages) (ℕ-discrete (W .owner (a / pageBytes)) (suc r))) (decBoth (decLt 0 (L .size)) (decBoth (decLe (L .size * suc (a % pageBytes / L .size)) pageBytes) (decRun L (positionAt L (a % pageBytes % L .size)) (flat m T)))))
+    ∙ does-both (decBoth (decLt (a / pageBytes) pages) (ℕ-discrete (W .owner (a / pageBytes)) (suc r))) (decBoth (decLt 0 (L .size)) (decBoth (decLe (L .size * suc (a % pageBytes / L .size)) pageBytes) (decRun L (positionAt L (a % pageBytes % L .size)) (flat m T))))
+    ∙ ap₂ (λ (x y : Bool). x && y)
+    (does-both (decLt (a / pageBytes) pages) (ℕ-discrete (W .owner (a / pageBytes)) (suc r)) ∙ ap₂ (λ (x y : Bool). x && y) (does-lt (a / pageBytes) pages) (does-nat (W .owner (a / pageBytes)) (suc r)))
+    (does-both (decLt 0 (L .size)) (decBoth (decLe (L .size * suc (a % pageBytes / L .size)) pageBytes) (decRun L (positionAt L (a % pageBytes % L .size)) (flat m T)))
+    ∙ ap₂ (λ (x y : Bool). x && y) (does-lt 0 (L .size))
+    (does-both (decLe (L .size * suc (a % pageBytes / L .size)) pageBytes) (decRun L (positionAt L (a % pageBytes % L .size)) (flat m T))
+    ∙ ap (λ (x : Bool). x && does (decRun L (positionAt L (a % pageBytes % L .size)) (flat m T))) (does-le (L .size * suc (a % pageBytes / L .size)) pageBytes)))
+    ∙ ap (λ (X : Tree live). (ltb (a / pageBytes) pages && eqb (W .owner (a / pageBytes)) (suc r)) && inPage (flat m X) (a % pageBytes) (flat m T)) e
+
+module _ (f : Bytes) (r owner u : ℕ) (p : Bytes) (a t : ℕ) (q : Bytes) where
+  stands-no : (ltb (a / pageBytes) pages && eqb owner (suc r) ≡ false) → StandsIs f r owner u p a t q false
+  stands-no h W own ty =
+      sym (stands-test (moduleOf f) W (sub (under q) (moduleOf f .term t)) (sub (under p) (moduleOf f .term u)) r a ty
+      ∙ ap (λ (x : ℕ). (ltb (a / pageBytes) pages && eqb x (suc r)) && inPage (flat (moduleOf f) (sub (under {k = live} p) (moduleOf f .term u))) (a % pageBytes) (flat (moduleOf f) (sub (under q) (moduleOf f .term t)))) own
+      ∙ ap (λ (b : Bool). b && inPage (flat (moduleOf f) (sub (under {k = live} p) (moduleOf f .term u))) (a % pageBytes) (flat (moduleOf f) (sub (under q) (moduleOf f .term t)))) h)
+
+  pub stands-far : 16384 ≤ a → StandsIs f r owner u p a t q false
+  stands-far h = stands-no (ap (λ (b : Bool). b && eqb owner (suc r)) (le-ltb (a / pageBytes) pages (omega arith)))
+
+  pub stands-other : (owner ≡ suc r → ⊥) → StandsIs f r owner u p a t q false
+  stands-other h = stands-no (and-no (ltb (a / pageBytes) pages) (eqb owner (suc r)) (inr (ne-eqb owner (suc r) h)))
+
+  pub stands-in : a < 16384 → owner ≡ suc r → (b : Bool) → InPageIs f u p (a % 256) t q b → StandsIs f r owner u p a t q b
+  stands-in l e b h W own ty =
+      sym (stands-test (moduleOf f) W (sub (under q) (moduleOf f .term t)) (sub (under p) (moduleOf f .term u)) r a ty
+      ∙ ap₂ (λ (x y : Bool). (x && y) && inPage (flat (moduleOf f) (sub (under {k = live} p) (moduleOf f .term u))) (a % pageBytes) (flat (moduleOf f) (sub (under q) (moduleOf f .term t))))
+      (lt-ltb (a / pageBytes) pages (omega arith)) (eq-eqb (W .owner (a / pageBytes)) (suc r) (own ∙ e))
+      ∙ sym (h .1))

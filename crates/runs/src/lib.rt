@@ -13,9 +13,10 @@ ghost use Rattle.terms.specs.Extents.{Counted, Small};
 ghost use Rattle.terms.specs.Compare.{byteUnder, under};
 ghost use Rattle.runs.specs.Table.{pack, entryAt, coreAt, Core, Ranged, Filled, Known, Table, exactOf, termLayout, structLayout};
 ghost use Rattle.runs.specs.Positions.{Keeps, Agree, argByte, placedOf, Found};
-ghost use Rattle.runs.specs.Runs.{Lower, RunAtIs, SameIs, ElementIs};
+ghost use Rattle.runs.specs.Runs.{Lower, RunAtIs, SameIs, ElementIs, InPageIs, StandsIs};
 use terms::Extent;
 use terms::Head;
+use terms::Live;
 
 // A primitive: its distance in bytes, and the place of its term with the regions put for its variables.
 pub struct Primitive {
@@ -447,4 +448,63 @@ pub fn element(f: &[u8], n: usize, k: usize, t: usize, tab: &[u64]) -> Extent
         size: e.size,
         count: terms::number(f, n, t),
     }
+}
+
+// ---- addresses
+
+// Whether the run of term t under q stands at byte x of a page whose objects are of term u under p, inside one object.
+pub fn in_page(
+    f: &[u8],
+    n: usize,
+    k: usize,
+    u: usize,
+    p: &[u8],
+    x: usize,
+    t: usize,
+    q: &[u8],
+    tab: &[u64],
+) -> bool
+    requires { ⌜ (Table (now f) n k (now tab)) × (length (now p) ≤ 8) × (length (now q) ≤ 8) × (x < 256) ⌝ }
+    ensures { λ r. ⌜ InPageIs (now (f .entry)) u (now (p .entry)) x t (now (q .entry)) r ⌝ }
+{
+    let e = extent_at(n, u, tab, f, k);
+    let size = e.size;
+    if size == 0 {
+        return false;
+    }
+    if x / size * size + size > 256 {
+        return false;
+    }
+    run_at(f, n, k, u, p, x % size, t, q, tab)
+}
+
+// Kind 22, and a pointer that is not zero: whether address a is one of the run of term t under q in live region r, whose objects
+// are of term u under p. `owner` is the owner of the page of a.
+pub fn stands(
+    f: &[u8],
+    n: usize,
+    k: usize,
+    r: Live,
+    owner: u8,
+    u: usize,
+    p: &[u8],
+    a: u32,
+    t: usize,
+    q: &[u8],
+    tab: &[u64],
+) -> bool
+    requires { ⌜ (Table (now f) n k (now tab)) × (length (now p) ≤ 8) × (length (now q) ≤ 8) ⌝ }
+    ensures { λ b. ⌜ StandsIs (now (f .entry)) (r .0) owner u (now (p .entry)) a t (now (q .entry)) b ⌝ }
+{
+    let region = r.0;
+    if a >= 16384 {
+        return false;
+    }
+    if owner == 0 {
+        return false;
+    }
+    if owner - 1 != region {
+        return false;
+    }
+    in_page(f, n, k, u, p, (a % 256) as usize, t, q, tab)
 }
