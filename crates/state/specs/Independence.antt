@@ -11,7 +11,7 @@ use lib.ListN.{length}
 use Rattle.words.specs.Bytes.{Bytes, AllBytes, byteAt, little, splice}
 use Rattle.words.specs.ByteLaws.{length-splice, length-little, getD-splice-in, getD-splice-out, byte-past}
 use Rattle.words.specs.Bits.{withBit}
-use Rattle.rules.specs.Limits.{pages, pageBytes, memoryBytes, stateBytes, memoryAt}
+use Rattle.rules.specs.Limits.{mostFrames, pages, pageBytes, memoryBytes, stateBytes, memoryAt}
 use Rattle.rules.specs.Decision.{decTyped}
 use Rattle.rules.specs.Module.{Instruction, constant, copy, operate, zeroExtend, signExtend, address, check, field, index, load, store, new, free, input, output, jump, branch, call, return, Function, Module}
 use Rattle.rules.specs.State.{markPlace, memoryPlace, pageOwner, memoryByte, memoryNumber, View, view, Write, written, putStatus, putFrames, putOutputCount, putResult, putOwner, putMark, clearPage, putMemory, putInstruction, putFrame, clearMarks, clearFrame}
@@ -60,7 +60,7 @@ module _ (m : Module) (form : Bytes) (M : ℕ → ℕ) (v : View) where
   unfolding effectAt
   effect-same zero = refl
   effect-same (suc k) =
-      ap (λ (e : Effect). need (decLt (v .fn k) (m .functions)) (need (decLt (v .pc k) (m .function (v .fn k) .length)) (need (decTyped m (m .function (v .fn k)) (m .function (v .fn k) .code (v .pc k))) e)))
+      ap (λ (e : Effect). need (decLt k mostFrames) (need (decLt (v .fn k) (m .functions)) (need (decLt (v .pc k) (m .function (v .fn k) .length)) (need (decTyped m (m .function (v .fn k)) (m .function (v .fn k) .code (v .pc k))) e))))
       (exec-same k (m .function (v .fn k)) (m .function (v .fn k) .code (v .pc k)))
 
 -- states that differ in page bytes only have one view but for the memory
