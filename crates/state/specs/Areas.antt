@@ -1,10 +1,9 @@
 -- Which bytes each accessor reads: where those agree, the accessor gives the same. The areas of the layout: what differs within one
 -- area changes only that area's part of the view. Assumes nothing.
-use mathlib.Core.Path.{_≡_, refl, sym, ap, ap₂, _∙_, fun-ext}
+use mathlib.Core.Path.{_≡_, refl, ap, fun-ext}
 use mathlib.Core.Bool.{Bool, true, false, cond, _&&_}
-use mathlib.Core.Logic.{_⊎_, inl, inr, ⊎-elim, _≢_}
-use Prim.Native.Nat.{ℕ, zero, suc, _+_, _*_, _-_, _/_, _%_, _<_, _≤_}
-use native.Mathlib.Decide.{ℕ-discrete, decLt}
+use mathlib.Core.Logic.{_⊎_, inl, inr}
+use Prim.Native.Nat.{ℕ, _+_, _-_, _%_, _<_, _≤_}
 use native.Mathlib.Omega.{arith}
 use lib.Dec.{ltb}
 use lib.ListN.{length}
@@ -13,9 +12,8 @@ use Rattle.words.specs.Bytes.{Bytes, byteAt, number, splice}
 use Rattle.words.specs.ByteLaws.{getD-splice-out, number-agree}
 use Rattle.words.specs.Bits.{bit}
 use Rattle.words.specs.Choose.{both}
-use Rattle.rules.specs.Limits.{pages, pageBytes, memoryBytes, mostFrames, mostRegisters, mostRegions, stateBytes, statusAt, framesAt, outputCountAt, resultAt, headerEnd, ownersAt, marksAt, markBytes, stackAt, frameBytes, stackEnd, memoryAt}
+use Rattle.rules.specs.Limits.{pages, pageBytes, memoryBytes, mostFrames, mostRegisters, mostRegions, stateBytes, statusAt, framesAt, outputCountAt, resultAt, headerEnd, ownersAt, marksAt, stackAt, frameBytes, stackEnd, memoryAt}
 use Rattle.rules.specs.State.{ownerPlace, markPlace, framePlace, registerPlace, mapPlace, functionPlace, instructionPlace, memoryPlace, frameFunction, frameInstruction, frameRegister, frameMap, pageOwner, pageMark, memoryByte, View, view}
-use Rattle.state.specs.Update.{upd, upd-is}
 
 -- the bytes from lo up to hi agree
 abbrev pub Agree : Bytes → Bytes → ℕ → ℕ → Type 0

@@ -1,6 +1,6 @@
 -- How the code's readers and writers meet the definitions: a field at a place that the code computed. Assumes nothing.
-use mathlib.Core.Path.{_≡_, refl, sym, ap, _∙_}
-use Prim.Native.Nat.{ℕ, _+_, _%_, _<_}
+use mathlib.Core.Path.{_≡_, sym, ap, _∙_}
+use Prim.Native.Nat.{ℕ, _%_, _<_}
 use lib.ListN.{length, replicate, length-replicate}
 use Rattle.words.specs.Bytes.{Bytes, byteAt, little, splice, put, fill}
 use Rattle.words.specs.ByteLaws.{splice-whole}

@@ -11,5 +11,7 @@ pub mod Whole
 pub mod Independence
 pub mod Marks
 pub mod Fields
+pub mod NewFrame
+pub mod Determined
 pub mod Pages
 pub mod Opening

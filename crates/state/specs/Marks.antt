@@ -2,20 +2,20 @@
 -- first byte that is not 255. Assumes nothing.
 use mathlib.Core.Path.{_≡_, refl, sym, ap, _∙_}
 use mathlib.Core.Bool.{Bool, true, false, not, false≢true}
-use mathlib.Core.Logic.{_⊎_, inl, inr, ⊎-elim, _≢_}
-use Prim.Native.Nat.{ℕ, zero, suc, _+_, _*_, _-_, _^_, _/_, _%_, _<_, _≤_}
+use mathlib.Core.Logic.{_⊎_, ⊎-elim, _≢_}
+use Prim.Native.Nat.{ℕ, zero, suc, _+_, _*_, _-_, _/_, _%_, _<_, _≤_}
 use native.Mathlib.Decide.{decLt}
 use native.Mathlib.Omega.{arith}
 use lib.Dec.{eqb}
-use borrow.Author.Tests.{eqb-true, eqb-false, eq-eqb, ne-eqb}
+use borrow.Author.Tests.{eq-eqb, ne-eqb}
 use Rattle.words.specs.Bytes.{Bytes, AllBytes, byteAt}
 use Rattle.words.specs.Bits.{bit}
 use Rattle.words.specs.BitLaws.{bit-zero, bit-one, bits-same}
 use Rattle.words.specs.First.{first}
-use Rattle.words.specs.FirstLaws.{first-is, first-le, first-before, first-fails, first-all}
+use Rattle.words.specs.FirstLaws.{first-is, first-before, first-fails, first-all}
 use Rattle.words.specs.Choose.{lt-or-le, eq-or-ne}
 use Rattle.rules.specs.Limits.{pages, pageBytes, markBytes}
-use Rattle.rules.specs.State.{marksPlace, markPlace, pageMark}
+use Rattle.rules.specs.State.{marksPlace, pageMark}
 use Rattle.state.specs.Reads.{mark-is}
 
 -- a place is used: how the allocator's test reads it

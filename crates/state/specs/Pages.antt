@@ -2,15 +2,14 @@
 -- Assumes nothing.
 use mathlib.Core.Path.{_≡_, refl, sym, ap, ap₂, _∙_}
 use mathlib.Core.Bool.{Bool, true, false, cond}
-use mathlib.Core.Logic.{_⊎_, inl, inr, _≢_}
-use Prim.Native.Nat.{ℕ, zero, suc, _+_, _<_, _≤_}
+use mathlib.Core.Logic.{_≢_}
+use Prim.Native.Nat.{ℕ, zero, suc, _+_, _<_}
 use native.Mathlib.Decide.{ℕ-discrete}
 use native.Mathlib.Omega.{arith}
 use lib.Dec.{eqb}
-use borrow.Author.Tests.{ne-eqb, eq-eqb}
-use Rattle.words.specs.Choose.{cond-ne, cond-eq, split}
+use Rattle.words.specs.Choose.{cond-ne, cond-eq}
 use Rattle.rules.specs.Limits.{pages}
-use Rattle.rules.specs.Decide.{does, does-true}
+use Rattle.rules.specs.Decide.{does-true}
 use Rattle.rules.specs.Module.{Module}
 use Rattle.rules.specs.Heap.{decLocal}
 use Rattle.rules.specs.State.{View}

@@ -5,8 +5,10 @@ ghost use Prim.Native.Nat.{_+_, _<_, _≤_};
 ghost use lib.ListN.{length};
 ghost use Rattle.words.specs.Widths.{widthOf};
 ghost use Rattle.rules.specs.Limits.{stateBytes, pages, pageBytes, memoryBytes, mostFrames, mostRegisters, mostRegions};
-ghost use Rattle.rules.specs.State.{view, frameFunction, frameInstruction, frameRegister, frameMap, pageOwner, pageMark, memoryByte, memoryNumber, putStatus, putFrames, putOutputCount, putResult, putOwner, putMark, clearMarks, clearPage, putMemory, putRegister, putInstruction, clearFrame};
+ghost use Rattle.rules.specs.State.{view, frameFunction, frameInstruction, frameRegister, frameMap, pageOwner, pageMark, memoryByte, memoryNumber, putStatus, putFrames, putOutputCount, putResult, putOwner, putMark, clearMarks, clearPage, putMemory, putRegister, putInstruction, putFrame, clearFrame};
+ghost use Rattle.state.specs.Apply.{nothing};
 ghost use Rattle.state.specs.Puts.{after};
+ghost use Rattle.state.specs.NewFrame.{putRegion};
 use crate::LiveRegion;
 use crate::Machine;
 use crate::RegionVariable;
@@ -208,4 +210,21 @@ pub fn clear_frame(s: &mut [u8], k: u32)
     ensures { λ _. ⌜ now (s .exit) ≡ after (clearFrame k) (now (s .entry)) ⌝ }
 {
     clear(s, frame_place(k), Machine::FRAME_BYTES);
+}
+
+// A frame of function g at instruction 0, with map and registers zero.
+pub fn new_frame(s: &mut [u8], k: u32, g: u8)
+    requires { ⌜ (length (now s) ≡ stateBytes) × (k < mostFrames) ⌝ }
+    ensures { λ _. ⌜ now (s .exit) ≡ after (putFrame k g nothing nothing) (now (s .entry)) ⌝ }
+{
+    clear_frame(s, k);
+    put_byte(s, function_place(k), g);
+}
+
+// Frame k's map leads from the variable to the live region now.
+pub fn put_region(s: &mut [u8], k: u32, variable: RegionVariable, live: LiveRegion)
+    requires { ⌜ (length (now s) ≡ stateBytes) × ((k < mostFrames) × (variable .0 < mostRegions)) ⌝ }
+    ensures { λ _. ⌜ now (s .exit) ≡ after (putRegion k (variable .0) (live .0)) (now (s .entry)) ⌝ }
+{
+    put_byte(s, map_place(k, variable.0), live.0);
 }

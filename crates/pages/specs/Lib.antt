@@ -1,0 +1,4 @@
+-- The allocator's searches, what its answer means, and the laws of both.
+pub mod Search
+pub mod Places
+pub mod Meaning
