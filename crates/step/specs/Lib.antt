@@ -1,0 +1,3 @@
+-- What the effects of the code mean.
+pub mod Meaning
+pub mod Laws
