@@ -71,10 +71,7 @@ fn arithmetic(w: u64, x: u64, s: &[u8], k: u32) -> Effect
                 register(s, k, register_c(w)),
             ),
         ),
-        19 => Effect::Set(
-            a,
-            cut_to(register(s, k, register_b(w)) as u64, width_a(w)),
-        ),
+        19 => Effect::Set(a, cut_to(register(s, k, register_b(w)) as u64, width_a(w))),
         20 => Effect::Set(
             a,
             extend(width_a(w), width_b(w), register(s, k, register_b(w))),
@@ -144,12 +141,7 @@ fn new(s: &[u8], a: u32, r: LiveRegion, size: u32) -> Effect
         n,
     );
     match chosen {
-        Chosen::Place(p, j) => Effect::Take(
-            p,
-            j,
-            a,
-            Machine::PAGE_BYTES * p + size * j,
-        ),
+        Chosen::Place(p, j) => Effect::Take(p, j, a, Machine::PAGE_BYTES * p + size * j),
         Chosen::Page(p) => Effect::Grant(p, r, a),
         Chosen::Nothing => Effect::Stop(34),
     }
@@ -179,12 +171,7 @@ fn memory(w: u64, x: u64, s: &[u8], k: u32) -> Effect
             immediate_of(w),
             x,
         ),
-        25 => load(
-            register_b(w),
-            a,
-            register(s, k, register_b(w)),
-            width_a(w),
-        ),
+        25 => load(register_b(w), a, register(s, k, register_b(w)), width_a(w)),
         26 => store(
             a,
             register(s, k, a),
@@ -261,7 +248,16 @@ fn leave(code: &[u64], functions: &[u64; 256], s: &[u8], k: u32, y: u32) -> Effe
     Effect::Pop(c, register_a(code[i]), y)
 }
 
-fn control(w: u64, x: u64, code: &[u64], functions: &[u64; 256], form: &[u8], s: &[u8], k: u32, p: u32) -> Effect
+fn control(
+    w: u64,
+    x: u64,
+    code: &[u64],
+    functions: &[u64; 256],
+    form: &[u8],
+    s: &[u8],
+    k: u32,
+    p: u32,
+) -> Effect
     requires { ⌜ Ready (now s) k w x × (p < mostInstructions) × (29 ≤ kind w) × (kind w ≡ 34 → Caller (program (now code) (now functions)) (now s) k) ⌝ }
     ensures { λ r. ⌜ ((m : Module) → meant (plainPush m (view (now (s .entry))) k (program (now (code .entry)) (now (functions .entry))) (now (form .entry))) r
         ≡ plainControl m (view (now (s .entry))) k (program (now (code .entry)) (now (functions .entry))) (now (form .entry)) p (kind w) w x) ⌝ }
@@ -279,7 +275,16 @@ fn control(w: u64, x: u64, code: &[u64], functions: &[u64; 256], form: &[u8], s:
 // ---- all kinds
 
 // What the instruction with the words w and x does at p in top frame k. One match on the kind.
-pub fn effect(w: u64, x: u64, code: &[u64], functions: &[u64; 256], form: &[u8], s: &[u8], k: u32, p: u32) -> Effect
+pub fn effect(
+    w: u64,
+    x: u64,
+    code: &[u64],
+    functions: &[u64; 256],
+    form: &[u8],
+    s: &[u8],
+    k: u32,
+    p: u32,
+) -> Effect
     requires { ⌜ Ready (now s) k w x × (p < mostInstructions) × (kind w ≢ 22) × (kind w ≡ 34 → Caller (program (now code) (now functions)) (now s) k) ⌝ }
     ensures { λ r. ⌜ ((m : Module) → meant (plainPush m (view (now (s .entry))) k (program (now (code .entry)) (now (functions .entry))) (now (form .entry))) r
         ≡ plainOf m (view (now (s .entry))) k (program (now (code .entry)) (now (functions .entry))) (now (form .entry)) p w x) ⌝ }

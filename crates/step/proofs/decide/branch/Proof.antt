@@ -6,7 +6,6 @@ use borrow.Author.Needs.{needs}
 use Rattle.step.proofs.decide.branch.Statement.{statement}
 use Rattle.step.proofs.decide.branch.Tie as tie
 
-
 add-t6 : tie.Need-add-t6
 add-t6 c = search needs
 

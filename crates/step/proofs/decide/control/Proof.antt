@@ -7,7 +7,6 @@ use borrow.Author.Needs.{needs}
 use Rattle.step.proofs.decide.control.Statement.{statement}
 use Rattle.step.proofs.decide.control.Tie as tie
 
-
 register-a-requires : tie.Need-register-a-requires
 register-a-requires c κs = search needs
 

@@ -8,7 +8,6 @@ use borrow.Author.Needs.{needs}
 use Rattle.step.proofs.decide.effect.Statement.{statement}
 use Rattle.step.proofs.decide.effect.Tie as tie
 
-
 arithmetic-requires : tie.Need-arithmetic-requires
 arithmetic-requires c κs = search needs
 

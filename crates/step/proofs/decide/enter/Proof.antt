@@ -4,7 +4,6 @@ use borrow.Author.Needs.{needs}
 use Rattle.step.proofs.decide.enter.Statement.{statement}
 use Rattle.step.proofs.decide.enter.Tie as tie
 
-
 add-if1 : tie.Need-add-if1
 add-if1 c = search needs
 

@@ -6,7 +6,6 @@ use Rattle.step.specs.Laws.{zero-stops, other-goes}
 use Rattle.step.proofs.decide.index.Statement.{statement}
 use Rattle.step.proofs.decide.index.Tie as tie
 
-
 returns : tie.Need-returns
 returns c = λ call. zero-stops _ _ (c .if1 .taken)
 

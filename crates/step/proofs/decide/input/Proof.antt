@@ -5,7 +5,6 @@ use borrow.Author.Needs.{needs}
 use Rattle.step.proofs.decide.input.Statement.{statement}
 use Rattle.step.proofs.decide.input.Tie as tie
 
-
 shared-slice-read-wide : tie.Need-shared-slice-read-wide
 shared-slice-read-wide c = search needs
 

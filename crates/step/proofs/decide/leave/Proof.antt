@@ -1,12 +1,12 @@
 -- `leave` meets its contract: the caller stands at a call, whose words are there.
 use Prim.Native.Nat.{ℕ, suc, _+_, _-_, _<_}
+use Rattle.prepared.specs.Program.{program}
 use mathlib.Core.Path.{_≡_, refl, sym, ap, _∙_, subst}
 use native.Mathlib.Omega.{arith}
 use Rattle.step.specs.Laws.{finish-is, pop-means, caller-place}
 use borrow.Author.Needs.{needs}
 use Rattle.step.proofs.decide.leave.Statement.{statement}
 use Rattle.step.proofs.decide.leave.Tie as tie
-
 
 returns : tie.Need-returns
 returns c = λ m form call. finish-is _ _ _ _ _ _ _ (c .if1 .taken)
@@ -45,7 +45,7 @@ mul-register-a : tie.Need-mul-register-a
 mul-register-a c = search needs
 
 shared-slice-read-register-a : tie.Need-shared-slice-read-register-a
-shared-slice-read-register-a c = caller-place _ _ _ _ _ _ _ (let h = c .before .before .before .before .before .if1 .left in omega arith) (c .before .instruction .ensures .0) (c .before .before .before .before .function .ensures) (c .before .before .start-of .ensures .0) (c .before .before .before .before .before .before .before .before .pre .2)
+shared-slice-read-register-a c = caller-place (program (c .before .before .before .before .before .before .before .before .args .code .now) (c .before .before .before .before .before .before .before .before .args .functions .now)) _ _ _ _ _ _ (let h = c .before .before .before .before .before .if1 .left in omega arith) (c .before .instruction .ensures .0) (c .before .before .before .before .function .ensures) (c .before .before .start-of .ensures .0) (c .before .before .before .before .before .before .before .before .pre .2)
 
 register-a-requires : tie.Need-register-a-requires
 register-a-requires c κs = search needs

@@ -6,7 +6,6 @@ use borrow.Author.Needs.{needs}
 use Rattle.step.proofs.decide.memory.Statement.{statement}
 use Rattle.step.proofs.decide.memory.Tie as tie
 
-
 register-a-requires : tie.Need-register-a-requires
 register-a-requires c κs = search needs
 

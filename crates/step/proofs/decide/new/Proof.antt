@@ -6,7 +6,6 @@ use borrow.Author.Needs.{needs}
 use Rattle.step.proofs.decide.new.Statement.{statement}
 use Rattle.step.proofs.decide.new.Tie as tie
 
-
 places-in-page-requires : tie.Need-places-in-page-requires
 places-in-page-requires c κs = search needs
 

@@ -7,7 +7,6 @@ use borrow.Author.Needs.{needs}
 use Rattle.step.proofs.decide.output.Statement.{statement}
 use Rattle.step.proofs.decide.output.Tie as tie
 
-
 output-count-requires : tie.Need-output-count-requires
 output-count-requires c κs = search needs
 
