@@ -32,9 +32,11 @@ use state::fields::put_status;
 use words::low;
 use words::put_byte;
 
-// The effect e of top frame k, of the function with word u, at instruction p: what it writes, and where the run goes on.
+// The effect e of top frame k, of the function with word u, at instruction p with the words w and x: what it writes, and where the run goes on.
 pub fn apply(
     e: Effect,
+    w: u64,
+    x: u64,
     functions: &[u64; 256],
     given: &[u8; 256],
     own: &[u8; 256],
@@ -44,26 +46,26 @@ pub fn apply(
     u: u64,
     p: u32,
 ) -> Next
-    requires { ⌜ (length (now s) ≡ stateBytes) × (k < mostFrames) × (p < 65536) × (regionParams u + locals u ≤ mostRegions) × Bounded (now given) (now own) × Fits (now given) (now functions) (now s) (now o) k e ⌝ }
-    ensures { λ r. ⌜ Applied (now (functions .entry)) (now (given .entry)) (now (own .entry)) k u p e (now (s .entry)) (now (o .entry)) r (now (s .exit)) (now (o .exit)) ⌝ }
+    requires { ⌜ (length (now s) ≡ stateBytes) × (k < mostFrames) × (p < 65536) × (regionParams u + locals u ≤ mostRegions) × Bounded (now given) (now own) × Fits (now given) (now functions) (now s) (now o) k w x e ⌝ }
+    ensures { λ r. ⌜ Applied (now (functions .entry)) (now (given .entry)) (now (own .entry)) k u p w x e (now (s .entry)) (now (o .entry)) r (now (s .exit)) (now (o .exit)) ⌝ }
 {
     match e {
-        Effect::Set(a, x) => {
-            put_register(s, k, a, x);
-            Next::On(k, u, p + 1)
-        }
-        Effect::Fetch(_, a, x, w) => {
-            let y = memory(s, x, w);
+        Effect::Set(a, y) => {
             put_register(s, k, a, y);
             Next::On(k, u, p + 1)
         }
-        Effect::Save(_, x, w, y) => {
-            put_memory(s, x, w, y);
+        Effect::Fetch(_, a, y, n) => {
+            let y = memory(s, y, n);
+            put_register(s, k, a, y);
             Next::On(k, u, p + 1)
         }
-        Effect::Take(q, j, a, x) => {
+        Effect::Save(_, z, n, y) => {
+            put_memory(s, z, n, y);
+            Next::On(k, u, p + 1)
+        }
+        Effect::Take(q, j, a, y) => {
             take_place(s, q, j);
-            put_register(s, k, a, x);
+            put_register(s, k, a, y);
             Next::On(k, u, p + 1)
         }
         Effect::Grant(q, r, a) => {
@@ -76,30 +78,30 @@ pub fn apply(
             Next::On(k, u, p + 1)
         }
         Effect::GoTo(d) => Next::On(k, u, d),
-        Effect::Emit(x) => {
+        Effect::Emit(y) => {
             let n = output_count(s);
             put_output_count(s, n + 1);
-            put_byte(o, n as usize, low(x));
+            put_byte(o, n as usize, low(y));
             Next::On(k, u, p + 1)
         }
-        Effect::Push(w, x) => {
+        Effect::Push => {
             let g = callee_of(x);
             let f = functions[g];
             put_instruction(s, k, p);
             enter(given, own, s, k, g as u8, params_of(f), x, immediate_of(w));
             Next::On(k + 1, f, 0)
         }
-        Effect::Pop(c, a, x) => {
+        Effect::Pop(c, a, y) => {
             let f = functions[function(s, c) as usize];
             let q = instruction(s, c);
             leave(s, k, region_params_of(u), locals_of(u));
-            put_register(s, c, a, x);
+            put_register(s, c, a, y);
             Next::On(c, f, q + 1)
         }
-        Effect::Finish(x) => {
+        Effect::Finish(y) => {
             leave(s, k, region_params_of(u), locals_of(u));
             put_status(s, 1);
-            put_result(s, x);
+            put_result(s, y);
             Next::Over
         }
         Effect::Stop(n) => {

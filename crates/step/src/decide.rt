@@ -223,12 +223,12 @@ fn branch(y: u32, p: u32, d: u32) -> Effect
     }
 }
 
-fn enter(w: u64, x: u64, k: u32) -> Effect
+fn enter(k: u32) -> Effect
     requires { ⌜ k < mostFrames ⌝ }
-    ensures { λ r. ⌜ ((call : ℕ → ℕ → Effected) → meant call r ≡ cond (ltb (suc k) mostFrames) (call w x) (stop 35)) ⌝ }
+    ensures { λ r. ⌜ ((call : Effected) → meant call r ≡ cond (ltb (suc k) mostFrames) call (stop 35)) ⌝ }
 {
     if k + 1 < Machine::MOST_FRAMES {
-        Effect::Push(w, x)
+        Effect::Push
     } else {
         Effect::Stop(35)
     }
@@ -259,15 +259,15 @@ fn control(
     p: u32,
 ) -> Effect
     requires { ⌜ Ready (now s) k w x × (p < mostInstructions) × (29 ≤ kind w) × (kind w ≡ 34 → Caller (program (now code) (now functions)) (now s) k) ⌝ }
-    ensures { λ r. ⌜ ((m : Module) → meant (plainPush m (view (now (s .entry))) k (program (now (code .entry)) (now (functions .entry))) (now (form .entry))) r
-        ≡ plainControl m (view (now (s .entry))) k (program (now (code .entry)) (now (functions .entry))) (now (form .entry)) p (kind w) w x) ⌝ }
+    ensures { λ r. ⌜ ((m : Module) → meant (plainPush m (view (now (s .entry))) k (program (now (code .entry)) (now (functions .entry))) (now (form .entry)) w x) r
+        ≡ plainControl m (view (now (s .entry))) k (program (now (code .entry)) (now (functions .entry))) (now (form .entry)) p (kind w) w x) × (r ≡ Effect.Push → kind w ≡ 33) ⌝ }
 {
     match w % 256 {
         29 => input(register_a(w), form, register(s, k, register_c(w))),
         30 => output(s, register(s, k, register_b(w))),
         31 => Effect::GoTo(immediate_of(w)),
         32 => branch(register(s, k, register_a(w)), p, immediate_of(w)),
-        33 => enter(w, x, k),
+        33 => enter(k),
         _ => leave(code, functions, s, k, register(s, k, register_a(w))),
     }
 }
@@ -286,8 +286,8 @@ pub fn effect(
     p: u32,
 ) -> Effect
     requires { ⌜ Ready (now s) k w x × (p < mostInstructions) × (kind w ≢ 22) × (kind w ≡ 34 → Caller (program (now code) (now functions)) (now s) k) ⌝ }
-    ensures { λ r. ⌜ ((m : Module) → meant (plainPush m (view (now (s .entry))) k (program (now (code .entry)) (now (functions .entry))) (now (form .entry))) r
-        ≡ plainOf m (view (now (s .entry))) k (program (now (code .entry)) (now (functions .entry))) (now (form .entry)) p w x) ⌝ }
+    ensures { λ r. ⌜ ((m : Module) → meant (plainPush m (view (now (s .entry))) k (program (now (code .entry)) (now (functions .entry))) (now (form .entry)) w x) r
+        ≡ plainOf m (view (now (s .entry))) k (program (now (code .entry)) (now (functions .entry))) (now (form .entry)) p w x) × (r ≡ Effect.Push → kind w ≡ 33) ⌝ }
 {
     match w % 256 {
         16..=22 => arithmetic(w, x, s, k),

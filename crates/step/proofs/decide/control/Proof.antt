@@ -2,6 +2,8 @@
 use Rattle.prepared.specs.Plain.{plainCall}
 use mathlib.Core.Path.{_≡_, refl, sym, ap, _∙_, subst}
 use native.Mathlib.Omega.{arith}
+use mathlib.Core.List.{[]}
+use Rattle.step.specs.Meaning.{not-call, anyModule}
 use Rattle.step.specs.Laws.{return-left, input-is, output-is, jump-is, branch-is, call-is, return-is}
 use borrow.Author.Needs.{needs}
 use Rattle.step.proofs.decide.control.Statement.{statement}
@@ -56,23 +58,23 @@ leave-requires : tie.Need-leave-requires
 leave-requires c κs = (c .before .before .before .before .before .before .pre .0 .size, c .before .before .before .before .before .before .pre .0 .frame, c .before .before .before .before .before .before .pre .3 (return-left _ (c .before .before .before .before .before .before .pre .2) (c .before .before .before .before .before .before .pre .0 .ranges .high) (c .before .before .match .rest .0 .0 .0 .0 .1) (c .before .before .match .rest .0 .0 .0 .1) (c .before .before .match .rest .0 .0 .1) (c .before .before .match .rest .0 .1) (c .before .before .match .rest .1)))
 
 returns : tie.Need-returns
-returns c = λ m. rw (input-is m _ _ _ _ _ _ _ (c .before .before .before .before .match .keys1)) (c .input .ensures _ ∙ (cc))
+returns c = (λ m. rw (input-is m _ _ _ _ _ _ _ (c .before .before .before .before .match .keys1)) (c .input .ensures _ ∙ (cc)), λ q. absurd (not-call _ _ (c .input .ensures) q))
 
 returns-2 : tie.Need-returns-2
-returns-2 c = λ m. rw (output-is m _ _ _ _ _ _ _ (c .before .before .before .match .keys2)) (c .output .ensures _ ∙ (cc))
+returns-2 c = (λ m. rw (output-is m _ _ _ _ _ _ _ (c .before .before .before .match .keys2)) (c .output .ensures _ ∙ (cc)), λ q. absurd (not-call _ _ (c .output .ensures) q))
 
 returns-3 : tie.Need-returns-3
-returns-3 c = λ m. rw (jump-is m _ _ _ _ _ _ _ (c .before .match .keys3)) (cc)
+returns-3 c = (λ m. rw (jump-is m _ _ _ _ _ _ _ (c .before .match .keys3)) (cc), λ q. absurd (not-call _ _ (λ call. refl) q))
 
 returns-4 : tie.Need-returns-4
-returns-4 c = λ m. rw (branch-is m _ _ _ _ _ _ _ (c .before .before .before .before .match .keys4)) (c .branch .ensures _ ∙ (cc))
+returns-4 c = (λ m. rw (branch-is m _ _ _ _ _ _ _ (c .before .before .before .before .match .keys4)) (c .branch .ensures _ ∙ (cc)), λ q. absurd (not-call _ _ (c .branch .ensures) q))
 
 returns-5 : tie.Need-returns-5
 unfolding plainCall
-returns-5 c = λ m. rw (call-is m _ _ _ _ _ _ _ (c .before .match .keys5)) (c .enter .ensures _)
+returns-5 c = (λ m. rw (call-is m _ _ _ _ _ _ _ (c .before .match .keys5)) (c .enter .ensures _), λ q. c .before .match .keys5)
 
 returns-6 : tie.Need-returns-6
-returns-6 c = λ m. rw (return-is m _ _ _ _ _ _ _ (return-left _ (c .before .before .before .before .before .before .before .pre .2) (c .before .before .before .before .before .before .before .pre .0 .ranges .high) (c .before .before .before .match .rest .0 .0 .0 .0 .1) (c .before .before .before .match .rest .0 .0 .0 .1) (c .before .before .before .match .rest .0 .0 .1) (c .before .before .before .match .rest .0 .1) (c .before .before .before .match .rest .1))) (c .leave .ensures m (c .before .before .before .before .before .before .before .args .form .now) _ ∙ (cc))
+returns-6 c = (λ m. rw (return-is m _ _ _ _ _ _ _ (return-left _ (c .before .before .before .before .before .before .before .pre .2) (c .before .before .before .before .before .before .before .pre .0 .ranges .high) (c .before .before .before .match .rest .0 .0 .0 .0 .1) (c .before .before .before .match .rest .0 .0 .0 .1) (c .before .before .before .match .rest .0 .0 .1) (c .before .before .before .match .rest .0 .1) (c .before .before .before .match .rest .1))) (c .leave .ensures m (c .before .before .before .before .before .before .before .args .form .now) _ ∙ (cc)), λ q. absurd (not-call _ _ (c .leave .ensures anyModule []) q))
 
 pub control-spec : {M : Type 1} → statement M
 control-spec =
