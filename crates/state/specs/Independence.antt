@@ -1,11 +1,11 @@
 -- The byte facts of a safe step (Claim): which effect it is depends on no page byte; what it leaves below the pages depends on the page
 -- bytes that it reads only; and it changes no page byte but a store's and a granted page's. Assumes nothing.
-use mathlib.Core.Path.{_≡_, refl, sym, ap, ap₂, _∙_, fun-ext}
-use mathlib.Core.Bool.{Bool, true, false, cond}
-use mathlib.Core.Logic.{_⊎_, inl, inr, ⊎-elim, _≢_}
+use mathlib.Core.Path.{_≡_, refl, sym, ap, _∙_}
+use mathlib.Core.Bool.{cond}
+use mathlib.Core.Logic.{_⊎_, inl, inr}
 use mathlib.Core.List.{List, [], _∷_, _++_}
-use Prim.Native.Nat.{ℕ, zero, suc, _+_, _*_, _-_, _/_, _%_, _<_, _≤_}
-use native.Mathlib.Decide.{ℕ-discrete, decLt, decLe}
+use Prim.Native.Nat.{ℕ, zero, suc, _+_, _*_, _-_, _%_, _<_, _≤_}
+use native.Mathlib.Decide.{decLt}
 use native.Mathlib.Omega.{arith}
 use lib.ListN.{length}
 use Rattle.words.specs.Bytes.{Bytes, AllBytes, byteAt, little, splice}
@@ -14,13 +14,8 @@ use Rattle.words.specs.Bits.{withBit}
 use Rattle.rules.specs.Limits.{mostFrames, pages, pageBytes, memoryBytes, stateBytes, memoryAt}
 use Rattle.rules.specs.Decision.{decTyped}
 use Rattle.rules.specs.Module.{Instruction, constant, copy, operate, zeroExtend, signExtend, address, check, field, index, load, store, new, free, input, output, jump, branch, call, return, Function, Module}
-<<<<<<< HEAD
 use Rattle.rules.specs.State.{markPlace, memoryPlace, memoryByte, memoryNumber, View, view, Write, written, putStatus, putFrames, putOutputCount, putResult, putOwner, putMark, clearPage, putMemory, putInstruction, putFrame, clearMarks, clearFrame}
 use Rattle.rules.specs.Step.{Effect, assign, fetch, save, takePlace, grantPage, freePlace, goTo, emit, push, pop, finish, stop, stuck, need, decHeld, calleeMap, calleeRegisters, returned, exec, effectAt, effectOf, closes}
-=======
-use Rattle.rules.specs.State.{markPlace, memoryPlace, pageOwner, memoryByte, memoryNumber, View, view, Write, written, putStatus, putFrames, putOutputCount, putResult, putOwner, putMark, clearPage, putMemory, putInstruction, putFrame, clearMarks, clearFrame}
-use Rattle.rules.specs.Step.{Effect, assign, fetch, save, takePlace, grantPage, freePlace, goTo, emit, push, pop, finish, stop, stuck, need, decHeld, calleeMap, calleeRegisters, returned, exec, effectAt, effectOf, closes}
->>>>>>> step
 use Rattle.rules.specs.Writes.{closing, leaving, setAndOn, stateWrites, applyState}
 use Rattle.rules.specs.Claim.{SameButPages, Reads, Changes}
 use Rattle.state.specs.Update.{stored-apart, zeroed-in, zeroed-out, memoryNumber-agree}
