@@ -4,13 +4,11 @@ use mathlib.Core.Path.{_≡_, refl, sym, ap, _∙_}
 use mathlib.Core.Bool.{Bool, true, false, cond}
 use mathlib.Core.List.{List, [], _∷_, _++_}
 use Prim.Native.Nat.{ℕ, zero, suc, _+_, _-_, _*_, _/_, _%_, _^_, _<_, _≤_}
-use native.Mathlib.Decide.{decLt}
 use native.Mathlib.Numerals.{add-one}
 use native.Mathlib.Omega.{arith}
 use lib.Dec.{ltb}
 use lib.ListN.{length, getD}
 use Rattle.words.specs.Bytes.{Bytes}
-use Rattle.words.specs.Choose.{cond-split}
 use Rattle.rules.specs.Limits.{mostEntries, mostFunctions, blockBytes, mostBlocks}
 use Rattle.rules.specs.File.{records, recordOf, entryOf, regionsOf, returnOf, parametersOf, instructionsOf}
 use Rattle.rules.specs.Module.{Function, Module, Instruction, regions}
@@ -18,12 +16,12 @@ use Rattle.rules.specs.Walk.{Scan, scan, nextScan, whole}
 use Rattle.rules.specs.Decode.{treesOf, registersAt, codeAt, after, places, codePlaces, codeOf, functionOf, moduleOf, startOf, instructionAt}
 use Rattle.rules.specs.WellTyped.{scopeOf}
 use Rattle.rules.specs.declared.Record.{Record}
-use Rattle.walk.specs.Tables.{startsOf, starts-more}
+use Rattle.walk.specs.Tables.{startsOf, start-below}
 use Rattle.walk.specs.Scan.{callees}
 use Rattle.walk.specs.Code.{registers-far, skip-far}
 use Rattle.typing.specs.Walk.{skip, skip-suc, place-at}
 use Rattle.terms.specs.Extents.{Terms, Counted}
-use Rattle.typing.specs.Lists.{getD-left, getD-last, getD-past}
+use Rattle.typing.specs.Lists.{getD-past}
 
 -- what refusals 1 to 4 have established of file f: n terms, k structs, c functions, and where the functions start
 pub record Known (f : Bytes) (n k c : ℕ) (heads : List ℕ) : Type 0 where
@@ -111,28 +109,9 @@ module _ (f : Bytes) (h : ℕ) where
 
 -- ---- a function starts below the file's records
 
-module _ (f : Bytes) where
-  one-more : (l : List ℕ) (r g : ℕ) → getD l g 0 ≤ r → Dec (g < length l) → Dec (length l < g) → getD (l ++ r ∷ []) g 0 ≤ suc r
-  one-more l r g h (yes a) b = let e = getD-left 0 l (r ∷ []) g a in omega arith
-  one-more l r g h (no a) (yes b) = let e = getD-past 0 (l ++ r ∷ []) g (rw lib.ListN.length-append (omega arith)) in omega arith
-  one-more l r g h (no a) (no b) = let e = getD-last 0 l r g (omega arith) in omega arith
-
-  starts-low : (r g : ℕ) → getD (scan f r .starts) g 0 ≤ r
-  unfolding scan nextScan
-  starts-low zero g = omega arith
-  starts-low (suc r) g =
-      let h = starts-low r g in
-      cond-split (λ (l : List ℕ). getD l g 0 ≤ suc r) (ltb (scan f r .walk .functions) (scan f (suc r) .walk .functions)) (scan f r .starts ++ r ∷ []) (scan f r .starts)
-      (λ e. one-more (scan f r .starts) r g h (decLt g (length (scan f r .starts))) (decLt (length (scan f r .starts)) g))
-      (λ e. omega arith)
-
-  pub start-low : (g : ℕ) → startOf f g ≤ records f
-  unfolding startOf whole
-  start-low g = starts-low (records f) g
-
-  pub start-small : length f ≤ mostBlocks * blockBytes → (g : ℕ) → startOf f g < placeLimit
-  unfolding records
-  start-small s g = let h = start-low g in omega arith
+pub start-small : (f : Bytes) → length f ≤ mostBlocks * blockBytes → (g : ℕ) → startOf f g < placeLimit
+unfolding records
+start-small f s g = let h = start-below f g in omega arith
 
 -- ---- the record of an instruction
 

@@ -22,7 +22,7 @@ place-in-requires : tie.Need-place-in-requires
 place-in-requires c κs = search needs
 
 returns : tie.Need-returns
-returns c = let a = c .before .before .before .before .before .args in c .place-in .ensures ∙ ap (placeIn (now (a .f)) (a .h)) (c .before .less-one .ensures ∙ ap (λ (n : ℕ). n - 1) (c .before .before .instructions-of .ensures ∙ ap (λ (x : Record). instructionsOf x) (c .before .before .before .record-at .ensures) ∙ sym (length-at (now (a .f)) (a .h))))
+returns c = let a = c .before .before .before .before .before .args in c .place-in .ensures ∙ ap (placeIn (now (a .f)) (a .h)) (c .before .less-one .ensures ∙ ap (λ (n : ℕ). n - 1) (c .before .before .instructions-of .ensures .0 ∙ ap (λ (x : Record). instructionsOf x) (c .before .before .before .record-at .ensures) ∙ sym (length-at (now (a .f)) (a .h))))
 
 pub last-place-spec : {M : Type 1} → statement M
 last-place-spec =

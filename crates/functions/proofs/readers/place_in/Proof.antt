@@ -43,10 +43,10 @@ loop-again : tie.Need-loop-again Inv-loop μ-loop
 loop-again c = let a = c .before .before .before .before .before .before .before .before .args in (omega arith, c .after .ensures ∙ place-more (now (a .f)) (a .h) _ _ (c .before .before .loop .inv .1))
 
 returns : tie.Need-returns Inv-loop μ-loop
-returns c = let a = c .before .before .before .before .before .before .before .args in place-found (now (a .f)) (a .h) (c .before .before .before .before .instructions-of .result) (a .i) _ (c .before .loop .j) (c .before .before .before .before .instructions-of .ensures ∙ ap (λ (x : Record). instructionsOf x) (c .before .before .before .before .before .record-at .ensures)) (c .before .before .if1 .taken) (c .before .loop .inv .1) (omega arith)
+returns c = let a = c .before .before .before .before .before .before .before .args in place-found (now (a .f)) (a .h) (c .before .before .before .before .instructions-of .result) (a .i) _ (c .before .loop .j) (c .before .before .before .before .instructions-of .ensures .0 ∙ ap (λ (x : Record). instructionsOf x) (c .before .before .before .before .before .record-at .ensures)) (c .before .before .if1 .taken) (c .before .loop .inv .1) (omega arith)
 
 returns-2 : tie.Need-returns-2 Inv-loop μ-loop
-returns-2 c = let a = c .before .before .before .before .before .args in place-none (now (a .f)) (a .h) (c .before .before .instructions-of .result) (a .i) (c .before .before .instructions-of .ensures ∙ ap (λ (x : Record). instructionsOf x) (c .before .before .before .record-at .ensures)) (c .if1 .left)
+returns-2 c = let a = c .before .before .before .before .before .args in place-none (now (a .f)) (a .h) (c .before .before .instructions-of .result) (a .i) (c .before .before .instructions-of .ensures .0 ∙ ap (λ (x : Record). instructionsOf x) (c .before .before .before .record-at .ensures)) (c .if1 .left)
 
 pub place-in-spec : {M : Type 1} → statement M
 place-in-spec =
