@@ -1,0 +1,154 @@
+-- What a term is, by its head: the small readers that rules 5, 6 and 7 use. Assumes nothing.
+use mathlib.Core.Path.{_≡_, refl, sym, ap, _∙_}
+use mathlib.Core.Bool.{Bool, true, false, _&&_}
+use mathlib.Core.List.{List, [], _∷_}
+use Prim.Native.Nat.{ℕ, zero, suc, _+_, _-_, _<_, _≤_}
+use native.Mathlib.Decide.{ℕ-discrete}
+use native.Mathlib.Omega.{arith}
+use lib.Dec.{eqb, leb}
+use lib.ListN.{length}
+use borrow.Author.Tests.{le-leb, leb-true}
+use Rattle.words.specs.Bytes.{Bytes}
+use Rattle.words.specs.ByteLaws.{length-listOf}
+use Rattle.words.specs.Choose.{bool-same}
+use Rattle.rules.specs.Decide.{does, does-true, mapDec}
+use Rattle.rules.specs.Types.{variable, Region, Variable, region, Tree, int, ptr, arr, struct, form, numberOf, inner, regionOf, args, decTree, decUses, Primitive, decPrimitive}
+use Rattle.rules.specs.Decode.{noTree, moduleOf}
+use Rattle.terms.specs.declared.Head.{Head}
+use Rattle.terms.specs.declared.Head.the-variants.{Int, Ptr, Arr, Struct}
+use Rattle.terms.specs.Heads.{digit, argsOf, placeOf, treeAt, headOf, grow, formNo, mainNo, innerNo, regionNo, argsNo}
+use Rattle.terms.specs.HeadLaws.{tree-step, place-in, place-out, place-le, Fair}
+use Rattle.terms.specs.Extents.{Terms}
+use Rattle.terms.specs.ExtentLaws.{module-term}
+use Rattle.terms.specs.Compare.{does-map, does-nat, does-yes, inner-le}
+use Rattle.terms.specs.Bounds.{bound, bound-reads}
+
+-- the head h is that of tree T, and the place inside is one of the file's n terms, or none
+pub record Reads (f : Bytes) (n : ℕ) (T : Tree variable) (h : Head) : Type 0 where
+  pub tree : T ≡ grow (treeAt f) h
+  pub low : innerNo h ≤ n
+  pub fair : Fair n h
+
+-- term r is what is inside T, where T is a pointer or an array
+pub record Inner (f : Bytes) (T : Tree variable) (r : ℕ) : Type 0 where
+  pub pointer : form T ≡ 2 → moduleOf f .term r ≡ inner T
+  pub array : form T ≡ 3 → moduleOf f .term r ≡ inner T
+
+fair-up : (p n : ℕ) (h : Head) → p ≤ n → Fair p h → Fair n h
+fair-up p n (Int w) l e = e
+fair-up p n (Ptr a r) l e = let x = e .0 in (omega arith, e .1)
+fair-up p n (Arr c a) l e = let x = e .0 in (omega arith, e .1)
+fair-up p n (Struct N c d) l e = e
+
+pub head-reads : (f : Bytes) (n : ℕ) → Terms f n → (t p : ℕ) → p ≡ placeOf n t → (h : Head) → h ≡ headOf f p → Fair p h → Reads f n (moduleOf f .term t) h
+head-reads f n w t p q h e g =
+    let l = place-le n t in
+    record {
+      tree = module-term f n w t ∙ ap (treeAt f) (sym q) ∙ tree-step f p ∙ ap (grow (treeAt f)) (sym e);
+      low = omega (arith, inner-le p h g);
+      fair = fair-up p n h (omega arith) g;
+    }
+
+module _ (f : Bytes) (n : ℕ) (T : Tree variable) (h : Head) (e : Reads f n T h) where
+  form-grow : (h : Head) → formNo h ≡ form (grow (treeAt f) h)
+  unfolding grow
+  form-grow (Int w) = refl
+  form-grow (Ptr a r) = refl
+  form-grow (Arr c a) = refl
+  form-grow (Struct N c d) = refl
+
+  pub form-reads : formNo h ≡ form T
+  form-reads = form-grow h ∙ ap form (sym (e .tree))
+
+  number-grow : (h : Head) → (formNo h ≡ 2 → ⊥) → mainNo h ≡ numberOf (grow (treeAt f) h)
+  unfolding grow
+  number-grow (Int w) l = refl
+  number-grow (Ptr a r) l = absurd (l refl)
+  number-grow (Arr c a) l = refl
+  number-grow (Struct N c d) l = refl
+
+  pub number-reads : (formNo h ≡ 2 → ⊥) → mainNo h ≡ numberOf T
+  number-reads l = number-grow h l ∙ ap numberOf (sym (e .tree))
+
+  pointer-grow : (h : Head) → formNo h ≡ 2 → regionNo h ≡ numberOf (grow (treeAt f) h)
+  unfolding grow
+  pointer-grow (Int w) l = absurd (omega arith)
+  pointer-grow (Ptr a r) l = refl
+  pointer-grow (Arr c a) l = absurd (omega arith)
+  pointer-grow (Struct N c d) l = absurd (omega arith)
+
+  pub pointer-reads : formNo h ≡ 2 → regionNo h ≡ numberOf T
+  pointer-reads l = pointer-grow h l ∙ ap numberOf (sym (e .tree))
+
+  region-grow : (h : Head) → regionNo h ≡ regionOf (grow (treeAt f) h) .number
+  unfolding grow
+  region-grow (Int w) = refl
+  region-grow (Ptr a r) = refl
+  region-grow (Arr c a) = refl
+  region-grow (Struct N c d) = refl
+
+  pub region-reads : regionNo h ≡ regionOf T .number
+  region-reads = region-grow h ∙ ap (λ (U : Tree variable). regionOf U .number) (sym (e .tree))
+
+  region-fair : (h : Head) → Fair n h → regionNo h < 256
+  region-fair (Int w) g = omega arith
+  region-fair (Ptr a r) g = g .1
+  region-fair (Arr c a) g = omega arith
+  region-fair (Struct N c d) g = omega arith
+
+  pub region-byte : regionNo h < 256
+  region-byte = region-fair h (e .fair)
+
+  args-grow : (h : Head) → argsNo h ≡ length (args (grow (treeAt f) h))
+  unfolding grow argsOf
+  args-grow (Int w) = refl
+  args-grow (Ptr a r) = refl
+  args-grow (Arr c a) = refl
+  args-grow (Struct N c d) = sym (length-listOf (λ j. region (digit d j)) c)
+
+  pub args-reads : argsNo h ≡ length (args T)
+  args-reads = args-grow h ∙ ap (λ (U : Tree variable). length (args U)) (sym (e .tree))
+
+  integer-grow : (w : ℕ) (h : Head) → eqb (formNo h) 1 && eqb (mainNo h) w ≡ does (decTree (grow (treeAt f) h) (int w))
+  unfolding grow decTree
+  integer-grow w (Int v) = sym (does-map _ _ (ℕ-discrete v w) ∙ does-nat v w)
+  integer-grow w (Ptr a r) = refl
+  integer-grow w (Arr c a) = refl
+  integer-grow w (Struct N c d) = refl
+
+  pub integer-reads : (w : ℕ) → eqb (formNo h) 1 && eqb (mainNo h) w ≡ does (decTree T (int w))
+  integer-reads w = integer-grow w h ∙ ap (λ (U : Tree variable). does (decTree U (int w))) (sym (e .tree))
+
+  inside-grow : (h : Head) → (form (grow (treeAt f) h) ≡ 2 → treeAt f (innerNo h) ≡ inner (grow (treeAt f) h)) × (form (grow (treeAt f) h) ≡ 3 → treeAt f (innerNo h) ≡ inner (grow (treeAt f) h))
+  unfolding grow
+  inside-grow (Int w) = (λ l. absurd (omega arith), λ l. absurd (omega arith))
+  inside-grow (Ptr a r) = (λ l. refl, λ l. refl)
+  inside-grow (Arr c a) = (λ l. refl, λ l. refl)
+  inside-grow (Struct N c d) = (λ l. absurd (omega arith), λ l. absurd (omega arith))
+
+  pub inner-reads : Terms f n → (r : ℕ) → placeOf n r ≡ innerNo h → Inner f T r
+  inner-reads w r q =
+      let z : moduleOf f .term r ≡ treeAt f (innerNo h) = module-term f n w r ∙ ap (treeAt f) q in
+      record {
+        pointer = λ l. z ∙ inside-grow h .0 (ap form (sym (e .tree)) ∙ l) ∙ ap inner (sym (e .tree));
+        array = λ l. z ∙ inside-grow h .1 (ap form (sym (e .tree)) ∙ l) ∙ ap inner (sym (e .tree));
+      }
+
+  -- the number of a place, as the code makes it
+  pub place-back : (p : ℕ) → p ≡ innerNo h → 0 < p → placeOf n (p - 1) ≡ innerNo h
+  place-back p q l = let z = e .low in place-in n (p - 1) (omega arith) ∙ (let s : suc (p - 1) ≡ p = omega arith in s) ∙ q
+
+  pub place-nothing : (p : ℕ) → p ≡ innerNo h → p ≤ 0 → placeOf n n ≡ innerNo h
+  place-nothing p q l = place-out n n (omega arith) ∙ (let s : 0 ≡ p = omega arith in s) ∙ q
+
+pub primitive-reads : (T : Tree variable) → leb (form T) 2 ≡ does (decPrimitive T)
+unfolding decPrimitive
+primitive-reads (int w) = refl
+primitive-reads (ptr T r) = refl
+primitive-reads (arr n T) = refl
+primitive-reads (struct N rs) = refl
+
+pub uses-reads : (n : ℕ) (T : Tree variable) → leb (bound T) n ≡ does (decUses n T)
+uses-reads n T = bool-same (leb (bound T) n) (does (decUses n T))
+    (λ h. does-yes (decUses n T) (bound-reads n T .0 (leb-true (bound T) n h)))
+    (λ h. le-leb (bound T) n (bound-reads n T .1 (does-true (decUses n T) h)))

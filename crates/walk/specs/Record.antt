@@ -1,0 +1,35 @@
+-- Laws of a file's records: past the file they are zero. Assumes nothing.
+use mathlib.Core.Path.{_≡_, refl}
+use Prim.Native.Nat.{ℕ, _+_, _*_, _/_, _%_, _<_, _≤_}
+use native.Mathlib.Omega.{arith}
+use lib.ListN.{length}
+use Rattle.words.specs.Bytes.{Bytes, AllBytes}
+use Rattle.words.specs.ByteLaws.{byte-past, number-past}
+use Rattle.rules.specs.Limits.{blockBytes, blockRecords, recordBytes}
+use Rattle.rules.specs.File.{blocks, recordsIn, recordStart, recordOf}
+use Rattle.rules.specs.declared.Record.{Record}
+
+abbrev pub noRecord : Record
+noRecord = record { kind = 0; a = 0; b = 0; c = 0; d = 0 }
+
+-- a block past the last one begins past the end of the file
+pub start-past : (f : Bytes) (r : ℕ) → blocks f < r / blockRecords → length f ≤ recordStart r
+unfolding recordStart
+start-past f r h = omega arith
+
+pub record-past : (f : Bytes) (r : ℕ) → blocks f < r / blockRecords → recordOf f r ≡ noRecord
+unfolding recordOf
+record-past f r h =
+    let s = start-past f r h in
+    rw (
+      byte-past f (recordStart r) s,
+      byte-past f (recordStart r + 1) (omega arith),
+      byte-past f (recordStart r + 2) (omega arith),
+      byte-past f (recordStart r + 3) (omega arith),
+      number-past 4 f (recordStart r + 4) (omega arith),
+    )
+
+-- b is a byte
+pub byte-of : (f : Bytes) (r : ℕ) → AllBytes f → recordOf f r .b < 256
+unfolding recordOf
+byte-of f r all = all (recordStart r + 2)

@@ -1,0 +1,171 @@
+-- What one pass over the records gives: the walk of the whole file, and the record 7 of each function that a call can name. And how the
+-- pass goes from record to record. Assumes nothing.
+use mathlib.Core.Path.{_≡_, refl, sym, ap, ap₂, _∙_}
+use mathlib.Core.Bool.{Bool, true, false, cond, _&&_}
+use mathlib.Core.Logic.{_⊎_, inl, inr, ⊎-elim}
+use mathlib.Core.List.{List, [], _∷_, _++_}
+use Prim.Native.Nat.{ℕ, zero, suc, _+_, _<_, _≤_, _^_}
+use native.Mathlib.Numerals.{add-one}
+use native.Mathlib.Decide.{ℕ-discrete, decLt}
+use native.Mathlib.Omega.{arith}
+use lib.Dec.{ltb}
+use lib.ListN.{length, getD, set, replicate, length-append, length-set, length-replicate, getD-replicate}
+use lib.Seq.{ext-getD, getD-set-same, getD-set-other}
+use borrow.Author.Tests.{lt-ltb, le-ltb, ltb-true, ltb-false}
+use Rattle.words.specs.Bytes.{Bytes, AllBytes, listOf}
+use Rattle.words.specs.ByteLaws.{length-listOf, getD-listOf}
+use Rattle.words.specs.Choose.{both, not-both, cond-split}
+use Rattle.rules.specs.File.{records, recordOf}
+use Rattle.rules.specs.Walk.{start, next, Scan, nextScan, scan, whole}
+use Rattle.rules.specs.Decode.{startOf}
+use Rattle.rules.specs.declared.Record.{Record}
+use Rattle.rules.specs.declared.Walk.{Walk}
+use Rattle.walk.specs.declared.tables.Tables.{Tables}
+use Rattle.walk.specs.Scan.{callees, Room, Counts, counts-start, counts-room, counts-next, Grown, grown-next, scan-more}
+use Rattle.walk.specs.Record.{byte-of}
+use Rattle.typing.specs.Lists.{getD-left, getD-last, getD-past}
+
+-- the first 256 starts; 0 where there is no such function
+unfoldable pub entries : List ℕ → List ℕ
+entries starts = listOf (λ g. getD starts g 0) callees
+
+-- the starts of a file's functions, as the code holds them
+unfoldable pub startsOf : Bytes → List ℕ
+startsOf f = entries (whole f .starts)
+
+unfoldable pub tablesOf : Bytes → Tables
+tablesOf f = record { walk = whole f .walk; starts = startsOf f }
+
+abbrev pub noTables : Tables
+noTables = record { walk = start; starts = replicate callees 0 }
+
+-- ---- the entries
+
+pub length-entries : (starts : List ℕ) → length (entries starts) ≡ callees
+unfolding entries
+length-entries starts = length-listOf (λ g. getD starts g 0) callees
+
+pub entry-at : (starts : List ℕ) (g : ℕ) → g < callees → getD (entries starts) g 0 ≡ getD starts g 0
+unfolding entries
+entry-at starts g h = getD-listOf (λ k. getD starts k 0) callees g 0 h
+
+pub entries-none : entries [] ≡ replicate callees 0
+entries-none =
+    ext-getD 0 (entries []) (replicate callees 0) (length-entries [] ∙ sym (length-replicate {A = ℕ} callees 0))
+    (λ g h. let l : g < callees = rw length-entries at h in entry-at [] g l ∙ sym (getD-replicate callees g 0 0 l))
+
+-- a start more is stored where there is room
+pub entries-more : (starts : List ℕ) (r : ℕ) → length starts < callees → set (entries starts) (length starts) r ≡ entries (starts ++ r ∷ [])
+entries-more starts r room =
+    ext-getD 0 (set (entries starts) (length starts) r) (entries (starts ++ r ∷ [])) (length-set (entries starts) (length starts) r ∙ length-entries starts ∙ sym (length-entries (starts ++ r ∷ [])))
+    (λ g h. let l : g < callees = rw (length-set, length-entries) at h in at g l (decLt g (length starts)) (decLt (length starts) g) ∙ sym (entry-at (starts ++ r ∷ []) g l))
+  where
+    at : (g : ℕ) → g < callees → Dec (g < length starts) → Dec (length starts < g)
+        → getD (set (entries starts) (length starts) r) g 0 ≡ getD (starts ++ r ∷ []) g 0
+    at g l (yes a) b =
+        getD-set-other (entries starts) (length starts) g r 0 (λ e. omega arith) ∙ entry-at starts g l ∙ sym (getD-left 0 starts (r ∷ []) g a)
+    at g l (no a) (yes b) =
+        getD-set-other (entries starts) (length starts) g r 0 (λ e. omega arith)
+        ∙ entry-at starts g l
+        ∙ getD-past 0 starts g (omega arith)
+        ∙ sym (getD-past 0 (starts ++ r ∷ []) g (rw length-append (omega arith)))
+    at g l (no a) (no b) =
+        let e : g ≡ length starts = omega arith in
+        rw e (getD-set-same (entries starts) (length starts) r 0 (rw length-entries room) ∙ sym (getD-last 0 starts r (length starts) refl))
+
+-- past the entries nothing is stored
+pub entries-full : (starts : List ℕ) (r : ℕ) → callees ≤ length starts → entries starts ≡ entries (starts ++ r ∷ [])
+entries-full starts r full =
+    ext-getD 0 (entries starts) (entries (starts ++ r ∷ [])) (length-entries starts ∙ sym (length-entries (starts ++ r ∷ [])))
+    (λ g h.
+    let l : g < callees = rw length-entries at h in
+    entry-at starts g l ∙ sym (getD-left 0 starts (r ∷ []) g (omega arith)) ∙ sym (entry-at (starts ++ r ∷ []) g l))
+
+-- ---- as many starts as functions
+
+module _ (f : Bytes) (all : AllBytes f) where
+  pub counts : (r : ℕ) → Counts (scan f r .walk) r
+  unfolding scan nextScan
+  counts zero = counts-start
+  counts (suc r) = rw (← add-one r) (counts-next (recordOf f r) (counts r) (byte-of f r all) refl)
+
+  pub starts-count : (r : ℕ) → length (scan f r .starts) ≡ scan f r .walk .functions
+  unfolding scan nextScan
+  starts-count zero = refl
+  starts-count (suc r) = go (grown-next (scan f r .walk) (recordOf f r) r (counts r .callee) (byte-of f r all) .functions) (starts-count r)
+    where
+      go : (next (scan f r .walk) (recordOf f r) r .functions ≡ scan f r .walk .functions)
+          ⊎ (next (scan f r .walk) (recordOf f r) r .functions ≡ scan f r .walk .functions + 1)
+          → length (scan f r .starts) ≡ scan f r .walk .functions
+          → length (cond (ltb (scan f r .walk .functions) (next (scan f r .walk) (recordOf f r) r .functions)) (scan f r .starts ++ r ∷ []) (scan f r .starts))
+          ≡ next (scan f r .walk) (recordOf f r) r .functions
+      go (inl e) h = rw (le-ltb (scan f r .walk .functions) (next (scan f r .walk) (recordOf f r) r .functions) (omega arith)) (h ∙ sym e)
+      go (inr e) h =
+          rw (lt-ltb (scan f r .walk .functions) (next (scan f r .walk) (recordOf f r) r .functions) (omega arith), length-append)
+          (omega arith)
+
+-- ---- how a loop over the records goes on: what it holds before record r
+
+pub starts-more : (f : Bytes) (r : ℕ)
+    → scan f (r + 1) .starts ≡ cond (ltb (scan f r .walk .functions) (scan f (r + 1) .walk .functions)) (scan f r .starts ++ r ∷ []) (scan f r .starts)
+unfolding nextScan
+starts-more f r = rw scan-more
+
+module _ (f : Bytes) (all : AllBytes f) (r : ℕ) {w v : Walk} {hs : List ℕ} (hw : w ≡ scan f r .walk) (hv : v ≡ scan f (r + 1) .walk)
+    (hh : hs ≡ entries (scan f r .starts)) where
+  pub step-start : ltb (w .functions) callees && ltb (w .functions) (v .functions) ≡ true → set hs (w .functions) r ≡ entries (scan f (r + 1) .starts)
+  step-start e =
+      let p = both (ltb (w .functions) callees) (ltb (w .functions) (v .functions)) e in
+      let n : length (scan f r .starts) ≡ w .functions = starts-count f all r ∙ ap (λ (u : Walk). u .functions) (sym hw) in
+      let g : ltb (scan f r .walk .functions) (scan f (r + 1) .walk .functions) ≡ true = rw (← hw, ← hv) (p .1) in
+      rw (starts-more f r, g, hh, ← n) (entries-more (scan f r .starts) r (rw n (ltb-true (w .functions) callees (p .0))))
+
+  pub step-same : ltb (w .functions) callees && ltb (w .functions) (v .functions) ≡ false → hs ≡ entries (scan f (r + 1) .starts)
+  step-same e =
+      let n : length (scan f r .starts) ≡ w .functions = starts-count f all r ∙ ap (λ (u : Walk). u .functions) (sym hw) in
+      hh ∙ ⊎-elim (λ a. full n (ltb-false (w .functions) callees a)) (λ a. same a) (not-both (ltb (w .functions) callees) (ltb (w .functions) (v .functions)) e)
+    where
+      same : ltb (w .functions) (v .functions) ≡ false → entries (scan f r .starts) ≡ entries (scan f (r + 1) .starts)
+      same a =
+          let g : ltb (scan f r .walk .functions) (scan f (r + 1) .walk .functions) ≡ false = rw (← hw, ← hv) a in
+          rw (starts-more f r, g)
+
+      full : length (scan f r .starts) ≡ w .functions → callees ≤ w .functions → entries (scan f r .starts) ≡ entries (scan f (r + 1) .starts)
+      full n a = rw (starts-more f r) (cond-split (λ (ss : List ℕ). entries (scan f r .starts) ≡ entries ss)
+          (ltb (scan f r .walk .functions) (scan f (r + 1) .walk .functions)) (scan f r .starts ++ r ∷ []) (scan f r .starts)
+          (λ b. entries-full (scan f r .starts) r (omega arith)) (λ b. refl))
+
+-- ---- what the code holds of a whole file
+
+pub starts-none : (f : Bytes) → replicate callees 0 ≡ entries (scan f 0 .starts)
+unfolding scan
+starts-none f = sym entries-none
+
+pub start-at : (f : Bytes) (g : ℕ) → g < callees → getD (startsOf f) g 0 ≡ startOf f g
+unfolding startsOf startOf
+start-at f g h = entry-at (whole f .starts) g h
+
+pub tables-at : (f : Bytes) {n r : ℕ} {w : Walk} {hs : List ℕ} → n ≡ records f → r ≡ n → w ≡ scan f r .walk → hs ≡ entries (scan f r .starts)
+    → record { walk = w; starts = hs } ≡ tablesOf f
+unfolding tablesOf startsOf whole
+tables-at f hn hr hw hh = rw (hw, hh, hr, hn)
+
+pub tables-walk : (f : Bytes) → tablesOf f .walk ≡ whole f .walk
+unfolding tablesOf
+tables-walk f = refl
+
+pub tables-starts : (f : Bytes) → tablesOf f .starts ≡ startsOf f
+unfolding tablesOf
+tables-starts f = refl
+
+-- ---- that no count of the walk wraps
+
+pub records-few : (f : Bytes) → length f < 2 ^ 64 → records f < 2 ^ 63
+unfolding records
+records-few f h = omega arith
+
+pub room-at : (f : Bytes) → AllBytes f → (r : ℕ) {w : Walk} → w ≡ scan f r .walk → r < 2 ^ 63 → Room w
+room-at f all r e h = rw e (counts-room (counts f all r) h)
+
+pub callee-at : (f : Bytes) → AllBytes f → (r : ℕ) {w : Walk} → w ≡ scan f r .walk → w .callee < callees
+callee-at f all r e = rw e (counts f all r .callee)

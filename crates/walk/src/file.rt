@@ -1,0 +1,68 @@
+// The records of a file, and the numbers in a record. Each function is the definition of the same name in rules' specs/File.antt.
+ghost use mathlib.Core.Path.{_≡_};
+ghost use Rattle.rules.specs.File.{records, recordOf, regionsOf, returnOf, parametersOf, instructionsOf};
+use crate::limits::BLOCK_BYTES;
+use crate::limits::BLOCK_RECORDS;
+use crate::limits::RECORD_BYTES;
+use crate::limits::RECORDS_IN;
+use rules::Record;
+
+// The number of records of a file.
+pub fn count(f: &[u8]) -> usize
+    ensures { λ n. ⌜ n ≡ records (now (f .entry)) ⌝ }
+{
+    BLOCK_RECORDS * (f.len() / BLOCK_BYTES)
+}
+
+// Record r. (Past the file's last block all is zero, and no index wraps.)
+pub fn record_at(f: &[u8], r: usize) -> Record
+    ensures { λ x. ⌜ x ≡ recordOf (now (f .entry)) r ⌝ }
+{
+    let block = r / BLOCK_RECORDS;
+    if block <= f.len() / BLOCK_BYTES {
+        let o = BLOCK_BYTES * block + RECORDS_IN + RECORD_BYTES * (r % BLOCK_RECORDS);
+        Record {
+            kind: words::byte(f, o),
+            a: words::byte(f, o + 1),
+            b: words::byte(f, o + 2),
+            c: words::byte(f, o + 3),
+            d: words::word(f, o + 4),
+        }
+    } else {
+        Record {
+            kind: 0,
+            a: 0,
+            b: 0,
+            c: 0,
+            d: 0,
+        }
+    }
+}
+
+// "7 function: a region parameters, b local regions"
+pub fn regions_of(x: Record) -> usize
+    ensures { λ n. ⌜ n ≡ regionsOf x ⌝ }
+{
+    x.a as usize + x.b as usize
+}
+
+// "byte 4 the return term"
+pub fn return_of(x: Record) -> usize
+    ensures { λ n. ⌜ n ≡ returnOf x ⌝ }
+{
+    x.d as usize % 256
+}
+
+// "byte 5 the parameters"
+pub fn parameters_of(x: Record) -> usize
+    ensures { λ n. ⌜ n ≡ parametersOf x ⌝ }
+{
+    x.d as usize / 256 % 256
+}
+
+// "bytes 6-7 the instructions"
+pub fn instructions_of(x: Record) -> usize
+    ensures { λ n. ⌜ n ≡ instructionsOf x ⌝ }
+{
+    x.d as usize / 65536
+}
