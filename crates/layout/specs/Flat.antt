@@ -11,7 +11,7 @@ use lib.Dec.{leb}
 use lib.ListN.{length, getD, length-map}
 use Rattle.words.specs.Choose.{cond-split, split-le, lt-or-le}
 use Rattle.rules.specs.Limits.{sizeLimit}
-use Rattle.rules.specs.Decide.{Each, none, more}
+use Rattle.words.specs.Decide.{Each, none, more}
 use Rattle.rules.specs.Types.{RegionKind, variable, Region, Variable, Tree, int, ptr, arr, struct, width, sub, arg, Uses, in-arr, in-struct, Primitive, integer, pointer}
 use Rattle.rules.specs.Module.{Module}
 use Rattle.rules.specs.Flat.{Placed, at, off, type, Has, here, there, Layout, single, none as noLayout, moved, packed, beside, copiesOf, copies, placedIn, subLayout, flatWith, empty, fieldsFrom, fieldsWith, layouts, flat, structFlat, size, count, distance}

@@ -10,7 +10,7 @@ use lib.Dec.{leb}
 use lib.ListN.{length, getD, take, drop, length-append, length-map}
 use Rattle.words.specs.Choose.{cond-split, cond-ap, cond-le, cond-nle, split-le}
 use Rattle.rules.specs.Limits.{sizeLimit}
-use Rattle.rules.specs.Decide.{Each, none, more}
+use Rattle.words.specs.Decide.{Each, none, more}
 use Rattle.rules.specs.Types.{RegionKind, variable, Region, Tree, int, ptr, arr, struct, sub, arg}
 use Rattle.rules.specs.Module.{Module}
 use Rattle.rules.specs.Flat.{Placed, at, off, type, Has, here, there, Layout, single, none as noLayout, empty, moved, packed, beside, copiesOf, copies, placedIn, subLayout, flatWith, fieldsFrom, fieldsWith, layouts, flat, size, count}

@@ -5,7 +5,7 @@ use mathlib.Core.List.{List, [], _∷_, map}
 use Prim.Native.Nat.{ℕ, _<_, _≤_}
 use native.Mathlib.Omega.{arith}
 use lib.ListN.{length}
-use Rattle.rules.specs.Decide.{Each}
+use Rattle.words.specs.Decide.{Each}
 use Rattle.rules.specs.Types.{RegionKind, variable, Region, Variable, region, Tree, int, ptr, arr, struct, width, sub, arg, nowhere, form, Uses, in-int, in-ptr, in-arr, in-struct, Primitive, integer, pointer}
 use Rattle.rules.specs.Heap.{close}
 use Rattle.layout.specs.Lists.{each-at, each-map, each-weaken, map-map, map-each, getD-map}

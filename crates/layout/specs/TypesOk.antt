@@ -5,7 +5,7 @@ use mathlib.Core.List.{List}
 use Prim.Native.Nat.{ℕ, _<_, _≤_}
 use lib.ListN.{length}
 use Rattle.rules.specs.Limits.{sizeLimit}
-use Rattle.rules.specs.Decide.{Each}
+use Rattle.words.specs.Decide.{Each}
 use Rattle.rules.specs.Types.{RegionKind, Region, Tree, int, ptr, arr, struct, Uses}
 use Rattle.rules.specs.Module.{Module, regions}
 use Rattle.rules.specs.Flat.{size}

@@ -3,47 +3,15 @@ use mathlib.Core.List.{List, [], _∷_}
 use Prim.Native.Nat.{ℕ}
 use lib.ListN.{length, getD}
 use Rattle.rules.specs.Types.{RegionKind, variable, region, Tree, int, ptr, arr, struct}
-use Rattle.rules.specs.Module.{Instruction, call, return, Function, Module}
+use Rattle.rules.specs.Module.{Instruction, call, Function, Module}
 use Rattle.rules.specs.State.{View}
 use Rattle.rules.specs.Step.{Effect, effectOf}
 
 -- ---- modules
 
--- with p region parameters and l local regions of these types, q parameters, registers of these types, and this code
-abbrev pub functionWith : (p l : ℕ) (regionTypes : List (Tree variable)) (q : ℕ) (registerTypes : List (Tree variable)) (code : List Instruction) → Function
-functionWith p l regionTypes q registerTypes code = record {
-  regionParams = p;
-  locals = l;
-  registers = length registerTypes;
-  params = q;
-  result = int 4;
-  regionType = λ i. getD regionTypes i (int 1);
-  registerType = λ a. getD registerTypes a (int 1);
-  length = length code;
-  code = λ i. getD code i (return 0);
-}
-
--- with these fields of names, each of one region, and these functions
-abbrev pub moduleWith : List (List (Tree variable)) → List Function → Module
-moduleWith fields functions = record {
-  terms = 0;
-  term = λ i. int 1;
-  structs = length fields;
-  arity = λ N. 1;
-  fields = λ N. getD fields N [];
-  functions = length functions;
-  function = λ g. getD functions g (functionWith 0 0 [] 0 [] []);
-}
-
--- "C1 {i8; i32}"; "C2 name 0 = {i32; i32 in 0}"; {i32; i8}
-abbrev pub byteAndWord : List (Tree variable)
-byteAndWord = int 1 ∷ int 4 ∷ []
-
-abbrev pub wordAndPointer : List (Tree variable)
-wordAndPointer = int 4 ∷ ptr (int 4) (region 0) ∷ []
-
-abbrev pub wordAndByte : List (Tree variable)
-wordAndByte = int 4 ∷ int 1 ∷ []
+-- calls function 1 for region variable 0, with register 0, result into register 2
+abbrev pub callPair : Instruction
+callPair = call 2 1 (region 0 ∷ []) (0 ∷ [])
 
 -- a pointer to T in region variable 0; name N for region 0
 abbrev pub to : Tree variable → Tree variable
@@ -56,6 +24,44 @@ named N = struct N (region 0 ∷ [])
 abbrev pub registersFor : Tree variable → List (Tree variable)
 registersFor T = to T ∷ to T ∷ int 4 ∷ int 1 ∷ int 4 ∷ int 1 ∷ []
 
+-- With p region parameters and l local regions of these types, q parameters, registers of these types, and this code. Behind its
+-- last instruction there would be calls: a step from there is stuck only because it is behind.
+abbrev pub functionWith : (p l : ℕ) (regionTypes : List (Tree variable)) (q : ℕ) (registerTypes : List (Tree variable)) (code : List Instruction) → Function
+functionWith p l regionTypes q registerTypes code = record {
+  regionParams = p;
+  locals = l;
+  registers = length registerTypes;
+  params = q;
+  result = int 4;
+  regionType = λ i. getD regionTypes i (int 1);
+  registerType = λ a. getD registerTypes a (int 1);
+  codeLength = length code;
+  code = λ i. getD code i callPair;
+}
+
+-- With these fields of names, each of one region, and these functions. Behind the last there would be functions that stand at a
+-- call.
+abbrev pub moduleWith : List (List (Tree variable)) → List Function → Module
+moduleWith fields functions = record {
+  terms = 0;
+  term = λ i. int 1;
+  structs = length fields;
+  arity = λ N. 1;
+  fields = λ N. getD fields N [];
+  functions = length functions;
+  function = λ g. getD functions g (functionWith 0 1 (int 4 ∷ []) 0 (registersFor (int 4)) (callPair ∷ []));
+}
+
+-- "C1 {i8; i32}"; "C2 name 0 = {i32; i32 in 0}"; {i32; i8}
+abbrev pub byteAndWord : List (Tree variable)
+byteAndWord = int 1 ∷ int 4 ∷ []
+
+abbrev pub wordAndPointer : List (Tree variable)
+wordAndPointer = int 4 ∷ ptr (int 4) (region 0) ∷ []
+
+abbrev pub wordAndByte : List (Tree variable)
+wordAndByte = int 4 ∷ int 1 ∷ []
+
 -- one function with one local region of type T
 abbrev pub mainFor : Tree variable → List Instruction → Function
 mainFor T code = functionWith 0 1 (T ∷ []) 0 (registersFor T) code
@@ -66,10 +72,6 @@ main code = moduleWith [] (mainFor (int 4) code ∷ [])
 -- function 0 with one local region of i32, function 1 with a region parameter of type T and a parameter, a pointer to T
 abbrev pub pair : Tree variable → (code0 code1 : List Instruction) → Module
 pair T code0 code1 = moduleWith [] (mainFor (int 4) code0 ∷ functionWith 1 0 (T ∷ []) 1 (registersFor T) code1 ∷ [])
-
--- function 0 calls function 1 for its region, with register 0, result into register 2
-abbrev pub callPair : Instruction
-callPair = call 2 1 (region 0 ∷ []) (0 ∷ [])
 
 -- a region of {i8; i32}: registers 0 pointer to {i8; i32}, 1 to i32, 2 i32, 3 i8, 4 pointer to {i32; i8}, 5 to i8
 abbrev pub cells : List Instruction → Module

@@ -12,7 +12,7 @@ use Rattle.rules.specs.Module.{Module, Function, jump}
 use Rattle.rules.specs.Flat.{at, size}
 use Rattle.words.specs.Bytes.{number, little, listFrom}
 use Rattle.words.specs.First.{firstFrom, first, sumBelow}
-use Rattle.rules.specs.Decide.{decBoth, decEither, decImp, decAll, decThe, mapDec, decList, decEach}
+use Rattle.words.specs.Decide.{decBoth, decEither, decImp, decAll, decThe, mapDec, decList, decEach}
 use Rattle.rules.specs.Decision.{asInt, asPtr, asArr, decReg, withInt, withPtr, anInt, aPtr, decConstant, decCopy, decOperate, decZero, decSigned, decAddress, decCheck, decField, decIndex, decThrough, decLoad, decStore, decWhole, decNew, decFree, decInput, decOutput, decJump, decBranch, decCall, decReturn, decTyped}
 use Rattle.rules.specs.Decode.{regionBytes, treeOf, treesOf, fieldsOf, places, codePlaces, callOf, arithmeticOf, memoryOf, controlOf, byGroup, instructionOf, codeOf, functionOf, moduleOf, startOf, instructionAt}
 use Rattle.rules.specs.File.{checkSum, blockTest, records, recordStart, recordOf, groupOf}
@@ -31,7 +31,7 @@ use Rattle.rules.specs.declared.Verdict.the-variants.{Accepted, Refused}
 -- ---- C1 to C3 on flat types
 
 unfoldable pub noFunction : Function
-noFunction = record { regionParams = 0; locals = 0; registers = 0; params = 0; result = int 0; regionType = λ i. int 0; registerType = λ i. int 0; length = 0; code = λ i. jump 0 }
+noFunction = record { regionParams = 0; locals = 0; registers = 0; params = 0; result = int 0; regionType = λ i. int 0; registerType = λ i. int 0; codeLength = 0; code = λ i. jump 0 }
 
 -- a module whose only name has one region and these fields
 unfoldable pub named : List (Tree variable) → Module

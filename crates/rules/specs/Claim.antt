@@ -13,16 +13,14 @@ use Rattle.rules.specs.Types.{variable, live, Variable, Tree, ptr, width
 use Rattle.rules.specs.Module.{Module, regions}
 use Rattle.rules.specs.Flat.{Has, flat, size}
 use Rattle.rules.specs.Decode.{moduleOf}
-use Rattle.rules.specs.Verdict.{verdictOf}
+use Rattle.rules.specs.Verdict.{verdictOf, IsAccepted}
 use Rattle.rules.specs.State.{View, view, memoryPlace}
 use Rattle.rules.specs.Heap.{close, Live, typeOf, heapTyping, Stands}
-use Rattle.rules.specs.Step.{Effect, set, fetch, save, takePlace, grantPage, freePlace, goTo, emit, push, pop, finish, stop, stuck, effectOf, grantedBy, handedBackBy}
+use Rattle.rules.specs.Step.{Effect, assign, fetch, save, takePlace, grantPage, freePlace, goTo, emit, push, pop, finish, stop, stuck, effectOf, grantedBy, handedBackBy}
 use Rattle.rules.specs.Writes.{applyState}
 use Rattle.rules.specs.Run.{Step, stateAfter, outputAfter, Trace, stuckSteps}
 use Rattle.rules.specs.StateTest.{Listed}
 use Rattle.rules.specs.Host.{Outcome, Went, refused, went, Opened, opened, Tested, passed, goOf, traceOf, openOf, testOf, leftState}
-use Rattle.rules.specs.declared.Verdict.{Verdict}
-use Rattle.rules.specs.declared.Verdict.the-variants.{Accepted, Refused}
 
 -- ---- what a load or store touches
 
@@ -65,7 +63,7 @@ pub record SameButPages (s t : Bytes) : Type 0 where
 
 -- the page bytes that an effect reads
 abbrev pub Reads : Effect → ℕ → Type 0
-Reads (set a x) i = ⊥
+Reads (assign a x) i = ⊥
 Reads (fetch b a x w) i = (x ≤ i) × (i < x + w)
 Reads (save b x w y) i = ⊥
 Reads (takePlace p j a x) i = ⊥
@@ -81,7 +79,7 @@ Reads stuck i = ⊥
 
 -- the page bytes that an effect may change: a store's, and a granted page
 abbrev pub Changes : Effect → ℕ → Type 0
-Changes (set a x) i = ⊥
+Changes (assign a x) i = ⊥
 Changes (fetch b a x w) i = ⊥
 Changes (save b x w y) i = (x ≤ i) × (i < x + w)
 Changes (takePlace p j a x) i = ⊥
@@ -200,11 +198,6 @@ pub record Claim (f : Bytes) (calls : List Call) (s : Bytes) : Type 0 where
   pub bytes : AllBytes (finalOf calls s)
   pub pages : owned (finalOf calls s) + handedBack (moduleOf f) (stepsOf calls s) ≡ owned s + granted (stepsOf calls s)
   pub none : view (finalOf calls s) .status ≡ 1 → owned (finalOf calls s) ≡ 0
-
--- the verdict is accepted
-abbrev pub IsAccepted : Verdict → Type 0
-IsAccepted (Accepted t n f i) = Unit {0}
-IsAccepted (Refused n p) = ⊥
 
 -- DEMAND 3 for every accepted file, every list of calls and every start
 abbrev pub Demand3 : Type 0

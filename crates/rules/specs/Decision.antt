@@ -6,7 +6,7 @@ use mathlib.Core.List.{List}
 use Prim.Native.Nat.{ℕ, _^_, _<_, _≤_}
 use native.Mathlib.Decide.{ℕ-discrete, decLt, decLe}
 use native.Mathlib.Omega.{arith}
-use Rattle.rules.specs.Decide.{mapDec, decBoth, decEither, decAll, decThe}
+use Rattle.words.specs.Decide.{mapDec, decBoth, decEither, decAll, decThe}
 use Rattle.rules.specs.Types.{variable, Variable, region, decRegion, Tree, int, ptr, arr, struct, sub, arg, form, decTree}
 use Rattle.rules.specs.Module.{Module, Function, regions, argument, Instruction, constant, copy, operate, zeroExtend, signExtend, address, check, field, index, load, store, new, free, input, output, jump, branch, call, return}
 use Rattle.rules.specs.Flat.{Run, Same, decRun, decSame, flat}
@@ -253,15 +253,15 @@ module _ (m : Module) (f : Function) where
       back (t-output p) = p
 
   unfoldable pub decJump : (d : ℕ) → Dec (Typed m f (jump d))
-  decJump d = mapDec t-jump back (decLt d (f .length))
+  decJump d = mapDec t-jump back (decLt d (f .codeLength))
     where
-      back : Typed m f (jump d) → d < f .length
+      back : Typed m f (jump d) → d < f .codeLength
       back (t-jump p) = p
 
   unfoldable pub decBranch : (a d : ℕ) → Dec (Typed m f (branch a d))
-  decBranch a d = mapDec (λ h. t-branch (h .0 .1) (h .1)) back (decBoth (anInt f a) (decLt d (f .length)))
+  decBranch a d = mapDec (λ h. t-branch (h .0 .1) (h .1)) back (decBoth (anInt f a) (decLt d (f .codeLength)))
     where
-      back : Typed m f (branch a d) → ((w : ℕ) × (f ⊢ a ∶ int w)) × (d < f .length)
+      back : Typed m f (branch a d) → ((w : ℕ) × (f ⊢ a ∶ int w)) × (d < f .codeLength)
       back (t-branch {w = w} p q) = ((w, p), q)
 
   -- what a call asks, part by part

@@ -9,7 +9,7 @@ use lib.Dec.{leb, eqb}
 use lib.ListN.{length, getD, take, drop}
 use Rattle.words.specs.First.{first}
 use Rattle.rules.specs.Limits.{sizeLimit}
-use Rattle.rules.specs.Decide.{decBoth, mapDec, decList}
+use Rattle.words.specs.Decide.{decBoth, mapDec, decList}
 use Rattle.rules.specs.Types.{RegionKind, variable, Region, Variable, Tree, int, ptr, arr, struct, sub, arg, decTree}
 use Rattle.rules.specs.Module.{Module}
 

@@ -8,7 +8,7 @@ use Prim.Native.Nat.{ℕ, zero, suc, _+_, _*_, _^_, _/_, _%_, _<_, _≤_}
 use native.Mathlib.Decide.{ℕ-discrete, decLt, decLe}
 use lib.Dec.{eqb}
 use Rattle.rules.specs.Limits.{pages, pageBytes}
-use Rattle.rules.specs.Decide.{mapDec, decBoth, decEither, decAny}
+use Rattle.words.specs.Decide.{mapDec, decBoth, decEither, decAny}
 use Rattle.rules.specs.Types.{variable, live, Region, Variable, LiveRegion, region, Tree, int, ptr, arr, struct, sub}
 use Rattle.rules.specs.Module.{Module, Function}
 use Rattle.rules.specs.Flat.{Layout, flat, size, RunAt, decRun, positionAt}

@@ -8,8 +8,8 @@ use Prim.Native.Nat.{ℕ, zero, suc, _+_, _*_, _/_, _%_}
 use lib.Dec.{eqb, ltb, leb}
 use lib.ListN.{length, getD, replicate}
 use Rattle.words.specs.Bytes.{Bytes, number}
-use Rattle.rules.specs.Limits.{pageBytes, mostForm, outputBytes, stateBytes}
-use Rattle.rules.specs.Decide.{does}
+use Rattle.rules.specs.Limits.{pageBytes, mostForm, outputBytes, stateBytes, badInput, badLength, badState, notRunning}
+use Rattle.words.specs.Decide.{does}
 use Rattle.rules.specs.Module.{Module}
 use Rattle.rules.specs.Flat.{size}
 use Rattle.rules.specs.Decode.{moduleOf}
@@ -68,10 +68,10 @@ unless refuse test n b = cond test b (refuse n 0)
 -- "22 already ended or stopped"
 abbrev pub goWith : {B : Type 0} → (ℕ → ℕ → B) → Module → (form state output : Bytes) → B → B
 goWith refuse m form s o b =
-    unless refuse (leb (length form) mostForm) 9
-    (unless refuse (eqb (length s) stateBytes && eqb (length o) outputBytes) 20
-    (unless refuse (does (decPasses m s)) 21
-    (unless refuse (eqb (view s .status) 0) 22 b)))
+    unless refuse (leb (length form) mostForm) badInput
+    (unless refuse (eqb (length s) stateBytes && eqb (length o) outputBytes) badLength
+    (unless refuse (does (decPasses m s)) badState
+    (unless refuse (eqb (view s .status) 0) notRunning b)))
 
 -- ---- going on
 
@@ -103,15 +103,15 @@ firstState m xs = written (putFrames 1 ∷ putFrame 0 0 (λ i. getD (lowestNumbe
 unfoldable pub openOf : (file arguments state : Bytes) → Opened
 openOf f xs s =
     onVerdict notOpened (verdictOf f)
-    (unless notOpened (eqb (length xs) (4 * moduleOf f .function 0 .params)) 9
-    (unless notOpened (eqb (length s) stateBytes) 20 (opened (firstState (moduleOf f) xs))))
+    (unless notOpened (eqb (length xs) (4 * moduleOf f .function 0 .params)) badInput
+    (unless notOpened (eqb (length s) stateBytes) badLength (opened (firstState (moduleOf f) xs))))
 
 -- ---- THE STATE TEST
 unfoldable pub testOf : (file state : Bytes) → Tested
 testOf f s =
     onVerdict failed (verdictOf f)
-    (unless failed (eqb (length s) stateBytes) 20
-    (unless failed (does (decPasses (moduleOf f) s)) 21 passed))
+    (unless failed (eqb (length s) stateBytes) badLength
+    (unless failed (does (decPasses (moduleOf f) s)) badState passed))
 
 -- ---- the reader of states
 

@@ -1,6 +1,5 @@
 -- Document 01's base, in its order: what must be believed.
 pub mod Limits
-pub mod Decide
 -- the module file and its rules
 pub mod Stages
 pub mod File
@@ -32,3 +31,4 @@ pub mod CasesFile
 pub mod CaseStates
 pub mod CasesStep
 pub mod CasesMachine
+pub mod CasesTest

@@ -9,8 +9,8 @@ use native.Mathlib.Decide.{ℕ-discrete, decLt, decLe}
 use native.Mathlib.Omega.{arith}
 use lib.ListN.{length}
 use Rattle.words.specs.Bytes.{Bytes, byteAt}
-use Rattle.rules.specs.Limits.{pages, pageBytes, mostFrames, mostRegisters, mostRegions, liveRegions, outputBytes, stateBytes, headerEnd, ownersAt, stackEnd, spareIn, memoryAt, frameBytes}
-use Rattle.rules.specs.Decide.{mapDec, decBoth, decEither, decImp, decNot, decAll, Each, decEach}
+use Rattle.rules.specs.Limits.{pages, pageBytes, mostFrames, mostRegisters, mostRegions, liveRegions, outputBytes, stateBytes, headerEnd, ownersAt, stackEnd, spareIn, memoryAt, frameBytes, zeroAddress, outputFull}
+use Rattle.words.specs.Decide.{mapDec, decBoth, decEither, decImp, decNot, decAll, Each, decEach}
 use Rattle.rules.specs.Types.{live, region, Tree, width, arg}
 use Rattle.rules.specs.Module.{Module, regions}
 use Rattle.rules.specs.Flat.{Placed, off, type, Layout, flat, size}
@@ -22,8 +22,8 @@ use Rattle.rules.specs.Step.{StandsAtCall, decStandsAtCall}
 
 -- a listed reason to stop
 pub record Listed (n : ℕ) : Type 0 where
-  pub low : 31 ≤ n
-  pub high : n ≤ 39
+  pub low : zeroAddress ≤ n
+  pub high : n ≤ outputFull
 
 -- the result is 0 unless ended
 pub data StatusOk (v : View) : Type 0 where
@@ -44,7 +44,7 @@ pub record Chained (m : Module) (fn pc : ℕ → ℕ) (map : ℕ → ℕ → ℕ
 pub record FramesOk (m : Module) (fn pc : ℕ → ℕ) (map : ℕ → ℕ → ℕ) (n : ℕ) : Type 0 where
   pub few : n ≤ mostFrames
   pub known : (k : ℕ) → k < n → fn k < m .functions
-  pub stands : (k : ℕ) → k < n → pc k < m .function (fn k) .length
+  pub stands : (k : ℕ) → k < n → pc k < m .function (fn k) .codeLength
   pub lowest : 0 < n → fn 0 ≡ 0
   pub chain : (k : ℕ) → suc k < n → Chained m fn pc map k
   pub different : (k : ℕ) → k < n → (i : ℕ) → i < m .function (fn k) .locals → (j : ℕ) → j < m .function (fn k) .locals → i ≢ j
@@ -103,7 +103,7 @@ pub record Passes (m : Module) (s : Bytes) : Type 0 where
 -- ---- the clauses are decided
 
 unfoldable pub decListed : (n : ℕ) → Dec (Listed n)
-decListed n = mapDec (λ h. record { low = h .0; high = h .1 }) (λ l. (l .low, l .high)) (decBoth (decLe 31 n) (decLe n 39))
+decListed n = mapDec (λ h. record { low = h .0; high = h .1 }) (λ l. (l .low, l .high)) (decBoth (decLe zeroAddress n) (decLe n outputFull))
 
 unfoldable pub decStatus : (v : View) → Dec (StatusOk v)
 decStatus v = mapDec to back
@@ -140,7 +140,7 @@ unfoldable pub decFrames : (m : Module) (fn pc : ℕ → ℕ) (map : ℕ → ℕ
 decFrames m fn pc map n = mapDec
     (λ h. record { few = h .0 .0; known = h .0 .1 .0; stands = h .0 .1 .1; lowest = h .1 .0 .0; chain = λ k l. h .1 .0 .1 k (omega arith) l; different = h .1 .1 .0; fresh = h .1 .1 .1 .0; numbered = h .1 .1 .1 .1 })
     (λ s. ((s .few, (s .known, s .stands)), ((s .lowest, λ k l o. s .chain k o), (s .different, (s .fresh, s .numbered)))))
-    (decBoth (decBoth (decLe n mostFrames) (decBoth (decAll (λ k. decLt (fn k) (m .functions)) n) (decAll (λ k. decLt (pc k) (m .function (fn k) .length)) n)))
+    (decBoth (decBoth (decLe n mostFrames) (decBoth (decAll (λ k. decLt (fn k) (m .functions)) n) (decAll (λ k. decLt (pc k) (m .function (fn k) .codeLength)) n)))
     (decBoth (decBoth (decImp (decLt 0 n) (ℕ-discrete (fn 0) 0)) (decAll (λ k. decImp (decLt (suc k) n) (decChained m fn pc map k)) n))
     (decBoth
     (decAll (λ k. decAll (λ i. decAll (λ j. decImp (decNot (ℕ-discrete i j)) (decNot (ℕ-discrete (map k (m .function (fn k) .regionParams + i)) (map k (m .function (fn k) .regionParams + j)))))

@@ -6,7 +6,7 @@ use Prim.Native.Nat.{ℕ, _<_}
 use native.Mathlib.Decide.{ℕ-discrete, decLt}
 use native.Mathlib.Omega.{arith}
 use lib.ListN.{getD}
-use Rattle.rules.specs.Decide.{decBoth, mapDec, decList, Each, decEach}
+use Rattle.words.specs.Decide.{decBoth, mapDec, decList, Each, decEach}
 
 -- "A region variable in the code and a live region of the machine are counted separately": two kinds of number, and only a
 -- substitution leads from one to the other

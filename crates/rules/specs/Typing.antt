@@ -47,8 +47,8 @@ pub data Typed (m : Module) (f : Function) : Instruction → Type 0 where
   t-input : {a c : ℕ} → f ⊢ c ∶ int 4 → f ⊢ a ∶ int 1 → Typed m f (input a c)
   t-output : {b : ℕ} → f ⊢ b ∶ int 1 → Typed m f (output b)
   -- "31 jump to d. 32 to d if integer a is not zero, else on"
-  t-jump : {d : ℕ} → d < f .length → Typed m f (jump d)
-  t-branch : {a d w : ℕ} → f ⊢ a ∶ int w → d < f .length → Typed m f (branch a d)
+  t-jump : {d : ℕ} → d < f .codeLength → Typed m f (jump d)
+  t-branch : {a d w : ℕ} → f ⊢ a ∶ int w → d < f .codeLength → Typed m f (branch a d)
   -- "33 calls function b for regions d, result into a; record 35 follows with argument registers .. Region, argument and
   -- result types equal the callee's with the regions put in. Document 000 prints only that the regions are in scope; their
   -- types count too"

@@ -7,7 +7,7 @@ use Prim.Native.Nat.{ℕ, _+_, _-_, _<_, _≤_}
 use native.Mathlib.Decide.{ℕ-discrete}
 use Rattle.words.specs.Bytes.{Bytes, listOf}
 use Rattle.words.specs.First.{sumBelow}
-use Rattle.rules.specs.Decide.{does, decBoth, decImp}
+use Rattle.words.specs.Decide.{does, decBoth, decImp}
 use Rattle.rules.specs.Stages.{Stage, verdict}
 use Rattle.rules.specs.File.{blocks, records, lengthRight, placeRight, checkRight, lengthStage, blockStage}
 use Rattle.rules.specs.Records.{recordTest, recordStage}
@@ -17,7 +17,7 @@ use Rattle.rules.specs.Typing.{Typed}
 use Rattle.rules.specs.Decision.{decTyped}
 use Rattle.rules.specs.WellTyped.{TermOk, decTerm, StructOk, decStruct, FunctionOk, decFunction, EntryOk, decEntry, Last, decLast}
 use Rattle.rules.specs.declared.Verdict.{Verdict}
-use Rattle.rules.specs.declared.Verdict.the-variants.{Accepted}
+use Rattle.rules.specs.declared.Verdict.the-variants.{Accepted, Refused}
 
 -- "5 has the first record of the term or name": the terms, then the names
 unfoldable pub termTest : Module → ℕ → Bool
@@ -45,14 +45,14 @@ instructionTest m F i = does (decTyped m F (F .code i))
 
 unfoldable pub instructionStage : Bytes → Module → ℕ → Stage
 instructionStage f m g =
-    let F = m .function g in record { count = F .length; test = instructionTest m F; number = λ i. 7; place = instructionAt f g }
+    let F = m .function g in record { count = F .codeLength; test = instructionTest m F; number = λ i. 7; place = instructionAt f g }
 
 -- "8 the last is neither 31 nor 34 (place: that record)"
 unfoldable pub lastTest : Module → ℕ → Bool
-lastTest m g = let F = m .function g in does (decLast (F .code (F .length - 1)))
+lastTest m g = let F = m .function g in does (decLast (F .code (F .codeLength - 1)))
 
 abbrev pub lastStage : Bytes → Module → Stage
-lastStage f m = record { count = m .functions; test = lastTest m; number = λ g. 8; place = λ g. instructionAt f g (m .function g .length - 1) }
+lastStage f m = record { count = m .functions; test = lastTest m; number = λ g. 8; place = λ g. instructionAt f g (m .function g .codeLength - 1) }
 
 unfoldable pub moduleStages : Bytes → Module → List Stage
 moduleStages f m =
@@ -60,7 +60,7 @@ moduleStages f m =
 
 -- "prints terms, names, functions, instructions"
 unfoldable pub instructions : Module → ℕ
-instructions m = sumBelow (m .functions) (λ g. m .function g .length)
+instructions m = sumBelow (m .functions) (λ g. m .function g .codeLength)
 
 abbrev pub acceptedAs : Module → Verdict
 acceptedAs m = Accepted (m .terms) (m .structs) (m .functions) (instructions m)
@@ -77,6 +77,11 @@ recordRules f = verdict (recordStage f ∷ []) (moduleRules f)
 unfoldable pub verdictOf : Bytes → Verdict
 verdictOf f = verdict (lengthStage f ∷ blockStage f ∷ []) (recordRules f)
 
+-- the verdict is accepted
+abbrev pub IsAccepted : Verdict → Type 0
+IsAccepted (Accepted t n f i) = Unit {0}
+IsAccepted (Refused n p) = ⊥
+
 -- rule n is broken at place p: "A refusal returns number and place (block for 2 and 3, record for 4 to 8, else 0)"
 pub data Broken (f : Bytes) : ℕ → ℕ → Type 0 where
   -- "1 file length. 2 place or count of a block, 3 its check"
@@ -92,8 +97,8 @@ pub data Broken (f : Bytes) : ℕ → ℕ → Type 0 where
   function : (g : ℕ) → g < moduleOf f .functions → ¬ FunctionOk (moduleOf f .function g) → Broken f 6 (startOf f g)
   entry : 0 < moduleOf f .functions → ¬ EntryOk (moduleOf f .function 0) → Broken f 6 (startOf f 0)
   -- "7 an instruction breaks its rule"
-  instruction : (g i : ℕ) → g < moduleOf f .functions → i < moduleOf f .function g .length
+  instruction : (g i : ℕ) → g < moduleOf f .functions → i < moduleOf f .function g .codeLength
       → ¬ Typed (moduleOf f) (moduleOf f .function g) (moduleOf f .function g .code i) → Broken f 7 (instructionAt f g i)
   -- "8 the last is neither 31 nor 34 (place: that record)"
-  last : (g : ℕ) → g < moduleOf f .functions → ¬ Last (moduleOf f .function g .code (moduleOf f .function g .length - 1))
-      → Broken f 8 (instructionAt f g (moduleOf f .function g .length - 1))
+  last : (g : ℕ) → g < moduleOf f .functions → ¬ Last (moduleOf f .function g .code (moduleOf f .function g .codeLength - 1))
+      → Broken f 8 (instructionAt f g (moduleOf f .function g .codeLength - 1))

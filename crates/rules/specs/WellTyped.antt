@@ -7,7 +7,7 @@ use native.Mathlib.Decide.{ℕ-discrete, decLe}
 use lib.Dec.{ltb}
 use lib.ListN.{length}
 use Rattle.rules.specs.Limits.{mostTerms, mostStructs, mostFunctions, mostRegions, mostRegionParams, mostEntries, mostRegisters, mostInstructions, sizeLimit}
-use Rattle.rules.specs.Decide.{mapDec, decBoth, decAll, Each, decEach}
+use Rattle.words.specs.Decide.{mapDec, decBoth, decAll, Each, decEach}
 use Rattle.rules.specs.Types.{variable, Tree, int, ptr, arr, struct, decTree, Uses, decUses, Primitive, decPrimitive}
 use Rattle.rules.specs.Module.{Module, Function, regions, Instruction, constant, copy, operate, zeroExtend, signExtend, address, check, field, index, load, store, new, free, input, output, jump, branch, call, return}
 use Rattle.rules.specs.Flat.{size, structFlat}
@@ -112,8 +112,8 @@ pub record Ranges (f : Function) : Type 0 where
   pub registers : f .registers ≤ mostRegisters
   pub params : f .params ≤ mostEntries
   pub fewParams : f .params ≤ f .registers
-  pub some : 1 ≤ f .length
-  pub instructions : f .length ≤ mostInstructions
+  pub some : 1 ≤ f .codeLength
+  pub instructions : f .codeLength ≤ mostInstructions
 
 pub record Tables (m : Module) : Type 0 where
   pub terms : m .terms ≤ mostTerms
@@ -130,5 +130,5 @@ pub record WellTyped (m : Module) : Type 0 where
   pub ranges : (g : ℕ) → g < m .functions → Ranges (m .function g)
   pub functions : (g : ℕ) → g < m .functions → FunctionOk (m .function g)
   pub entry : EntryOk (m .function 0)
-  pub typed : (g i : ℕ) → g < m .functions → i < m .function g .length → Typed m (m .function g) (m .function g .code i)
-  pub lasts : (g : ℕ) → g < m .functions → Last (m .function g .code (m .function g .length - 1))
+  pub typed : (g i : ℕ) → g < m .functions → i < m .function g .codeLength → Typed m (m .function g) (m .function g .code i)
+  pub lasts : (g : ℕ) → g < m .functions → Last (m .function g .code (m .function g .codeLength - 1))

@@ -7,7 +7,7 @@ use lib.Dec.{eqb, ltb, leb}
 use lib.ListN.{length}
 use Rattle.words.specs.Bytes.{Bytes}
 use Rattle.rules.specs.Limits.{stateBytes, outputBytes}
-use Rattle.rules.specs.Decide.{does}
+use Rattle.words.specs.Decide.{does}
 use Rattle.rules.specs.State.{View, view}
 use Rattle.rules.specs.StateTest.{Listed, StatusOk, running, stopped, ended, decStatus}
 use Rattle.stack.specs.Tells.{Tells, tells-map, tells-and, tells-or, tells-lt, tells-le, tells-eq, tells-does, does-tells}

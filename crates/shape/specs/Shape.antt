@@ -2,7 +2,7 @@
 use mathlib.Core.Path.{_≡_}
 use mathlib.Core.Bool.{Bool, _&&_}
 use Rattle.words.specs.Bytes.{Bytes}
-use Rattle.rules.specs.Decide.{does}
+use Rattle.words.specs.Decide.{does}
 use Rattle.rules.specs.Decode.{moduleOf}
 use Rattle.rules.specs.State.{view}
 use Rattle.rules.specs.StateTest.{FramesOk, decFrames}

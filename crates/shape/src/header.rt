@@ -1,6 +1,6 @@
 // Length and header: "status, result and output count are in range"; frames are "1-16, none once ended".
 ghost use mathlib.Core.Path.{_≡_};
-ghost use Rattle.rules.specs.Decide.{does};
+ghost use Rattle.words.specs.Decide.{does};
 ghost use Rattle.rules.specs.State.{view};
 ghost use Rattle.rules.specs.StateTest.{decStatus};
 ghost use Rattle.stack.specs.Tells.{Tells};

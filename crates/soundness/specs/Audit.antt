@@ -12,14 +12,14 @@ use Rattle.rules.specs.Limits.{memoryBytes}
 use Rattle.rules.specs.Types.{variable, Variable, Tree, ptr}
 use Rattle.rules.specs.Module.{Module}
 use Rattle.rules.specs.Decode.{moduleOf}
-use Rattle.rules.specs.Verdict.{verdictOf}
+use Rattle.rules.specs.Verdict.{verdictOf, IsAccepted}
 use Rattle.rules.specs.State.{View, view, memoryPlace, memoryNumber}
 use Rattle.rules.specs.Heap.{close}
-use Rattle.rules.specs.Step.{Effect, set, fetch, save, takePlace, grantPage, freePlace, goTo, emit, push, pop, finish, stop, stuck, effectOf}
+use Rattle.rules.specs.Step.{Effect, assign, fetch, save, takePlace, grantPage, freePlace, goTo, emit, push, pop, finish, stop, stuck, effectOf}
 use Rattle.rules.specs.Writes.{applyState, applyOutput}
 use Rattle.rules.specs.Run.{Step, topOf, stepOf, stateAfter, outputAfter, Trace, noSteps, runOf}
 use Rattle.rules.specs.StateTest.{Passes}
-use Rattle.rules.specs.Claim.{InRun, Touches, SameButPages, Reads, SafeStep, IsAccepted}
+use Rattle.rules.specs.Claim.{InRun, Touches, SameButPages, Reads, SafeStep}
 use Rattle.state.specs.Update.{memoryNumber-agree}
 use Rattle.state.specs.Areas.{memory-agree}
 use Rattle.state.specs.Independence.{view-pages}
@@ -36,7 +36,7 @@ pub record NamedBy (m : Module) (v : View) (k b x i : ℕ) : Type 0 where
 
 -- the page bytes that an effect's pointer names: a load's
 abbrev pub Named : Module → View → ℕ → Effect → ℕ → Type 0
-Named m v k (set a x) i = ⊥
+Named m v k (assign a x) i = ⊥
 Named m v k (fetch b a x w) i = NamedBy m v k b x i
 Named m v k (save b x w y) i = ⊥
 Named m v k (takePlace p j a x) i = ⊥
@@ -97,7 +97,7 @@ AgreeOnRun m form (suc b) t s o =
 
 -- a load reads only what its pointer names
 reads-named : (m : Module) (form s o : Bytes) → SafeStep m (stepOf m form s o) → (e : Effect) → effectOf m form (view s) ≡ e → (i : ℕ) → Reads e i → Named m (view s) (topFrame s) e i
-reads-named m form s o h (set a x) e i r = r
+reads-named m form s o h (assign a x) e i r = r
 reads-named m form s o h (fetch b a x w) e i r =
     let t = h .loads b a x w e in
     record { target = t .target; within = t .within; type = t .type; inside = t .bytes i (r .0) (r .1) }

@@ -10,7 +10,7 @@ use Rattle.rules.specs.Types.{region, width, arg}
 use Rattle.rules.specs.Module.{Module, regions, argument}
 use Rattle.rules.specs.State.{View}
 use Rattle.rules.specs.Heap.{close, Live, HeapTyping, heapTyping, Value}
-use Rattle.rules.specs.Step.{Effect, set, fetch, save, takePlace, grantPage, freePlace, goTo, emit, push, pop, finish, stop, stuck}
+use Rattle.rules.specs.Step.{Effect, assign, fetch, save, takePlace, grantPage, freePlace, goTo, emit, push, pop, finish, stop, stuck}
 use Rattle.layout.specs.Close.{close-width}
 use Rattle.layout.specs.Heap.{value-bound, slot-inside}
 use Rattle.state.specs.Effects.{Onward, InRegister, Bounded}
@@ -35,7 +35,7 @@ module _ (m : Module) (ok : ModuleOk m) (v : View) (k : ℕ) (g : Good m v (suc 
     value = register-value W j a x l h y;
   }
 
-  next-small : (j : ℕ) → j < suc k → suc (v .pc j) < m .function (v .fn j) .length → suc (v .pc j) < 65536
+  next-small : (j : ℕ) → j < suc k → suc (v .pc j) < m .function (v .fn j) .codeLength → suc (v .pc j) < 65536
   next-small j l h = omega (arith, h, ok .function (v .fn j) (g .frames .known j l) .ranges .instructions)
 
   onward : Next m v k → Onward v k
@@ -69,7 +69,7 @@ module _ (m : Module) (ok : ModuleOk m) (v : View) (k : ℕ) (g : Good m v (suc 
         go (no n) = rw (f .zeros a (omega arith)) (omega arith)
 
   pub bounded : v .outputCount ≤ outputBytes → (e : Effect) → Safe m v k e → Bounded v k e
-  bounded o (set a x) f = (onward (f .next), held (heapTyping m v (suc k)) k a x (omega arith) (f .register) (f .value))
+  bounded o (assign a x) f = (onward (f .next), held (heapTyping m v (suc k)) k a x (omega arith) (f .register) (f .value))
   bounded o (fetch b a x w) f =
       let facts = ok .function (v .fn k) (g .frames .known k (omega arith)) in (
         onward (f .next),

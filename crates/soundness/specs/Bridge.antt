@@ -8,7 +8,7 @@ use native.Mathlib.Omega.{arith}
 use lib.ListN.{length}
 use Rattle.words.specs.Bytes.{Bytes}
 use Rattle.rules.specs.Limits.{pages, pageBytes, stateBytes}
-use Rattle.rules.specs.Decide.{Each, none, more}
+use Rattle.words.specs.Decide.{Each, none, more}
 use Rattle.rules.specs.Types.{RegionKind, live, Tree}
 use Rattle.rules.specs.Module.{Module, Function, regions}
 use Rattle.rules.specs.Flat.{Placed, at, Has, here, there, flat, size}

@@ -12,15 +12,15 @@ use borrow.Author.Tests.{eqb-true}
 use Rattle.words.specs.Bytes.{Bytes}
 use Rattle.words.specs.Choose.{cond-yes, cond-eq}
 use Rattle.rules.specs.Limits.{mostForm, outputBytes, stateBytes}
-use Rattle.rules.specs.Decide.{does, does-true}
+use Rattle.words.specs.Decide.{does, does-true}
 use Rattle.rules.specs.Module.{Module}
 use Rattle.rules.specs.Decode.{moduleOf}
-use Rattle.rules.specs.Verdict.{verdictOf}
+use Rattle.rules.specs.Verdict.{verdictOf, IsAccepted}
 use Rattle.rules.specs.State.{view}
 use Rattle.rules.specs.Run.{Step, stepOf, stateAfter, outputAfter, Trace, noSteps, runOf, stuckSteps}
 use Rattle.rules.specs.StateTest.{Passes, decPasses}
 use Rattle.rules.specs.Host.{Outcome, Went, refused, went, noAnswer, notOpened, opened, failed, passed, onVerdict, outcomeOf, wentOf, goOf, traceOf, firstState, openOf, testOf, leftState}
-use Rattle.rules.specs.Claim.{AllSafe, Follows, owned, granted, handedBack, Call, goCall, traceCall, Lent, stepsOf, finalOf, Answered, wasRefused, wasRun, AllAnswered, Start, fromOpening, fromSaved, IsAccepted, Demand3}
+use Rattle.rules.specs.Claim.{AllSafe, Follows, owned, granted, handedBack, Call, goCall, traceCall, Lent, stepsOf, finalOf, Answered, wasRefused, wasRun, AllAnswered, Start, fromOpening, fromSaved, Demand3}
 use Rattle.rules.specs.declared.Verdict.{Verdict}
 use Rattle.rules.specs.declared.Verdict.the-variants.{Accepted, Refused}
 use Rattle.state.specs.Whole.{Whole}

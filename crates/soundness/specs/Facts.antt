@@ -6,13 +6,12 @@ use mathlib.Core.List.{List}
 use Prim.Native.Nat.{ℕ, _<_, _≤_}
 use Rattle.words.specs.Bytes.{Bytes}
 use Rattle.rules.specs.Limits.{mostFunctions}
-use Rattle.rules.specs.Decide.{Each, none, more}
+use Rattle.words.specs.Decide.{Each, none, more}
 use Rattle.rules.specs.Types.{variable, Tree}
 use Rattle.rules.specs.Module.{Module}
 use Rattle.rules.specs.Decode.{moduleOf}
 use Rattle.rules.specs.WellTyped.{WellTyped, EntryOk}
-use Rattle.rules.specs.Verdict.{verdictOf}
-use Rattle.rules.specs.Claim.{IsAccepted}
+use Rattle.rules.specs.Verdict.{verdictOf, IsAccepted}
 use Rattle.layout.specs.TypesOk.{Width, one, two, four, GoodTree, good-int, good-ptr, good-arr, good-struct, TypesOk}
 use Rattle.typing.specs.Accepted.{accepted}
 use Rattle.typing.specs.Types.{Deep, deep-int, deep-ptr, deep-arr, deep-struct, DeepModule, deep}

@@ -15,18 +15,18 @@ use borrow.Author.Tests.{eqb-true, eq-eqb, ltb-true, leb-true}
 use Rattle.words.specs.Bytes.{Bytes, AllBytes}
 use Rattle.words.specs.Choose.{both, both-of, true-not-false, cond-yes, cond-eq, cond-le}
 use Rattle.rules.specs.Limits.{pageBytes, memoryBytes, mostForm, outputBytes, stateBytes, memoryAt}
-use Rattle.rules.specs.Decide.{does}
+use Rattle.words.specs.Decide.{does}
 use Rattle.rules.specs.Module.{Module}
 use Rattle.rules.specs.Flat.{size}
 use Rattle.rules.specs.Decode.{moduleOf}
-use Rattle.rules.specs.Verdict.{verdictOf}
+use Rattle.rules.specs.Verdict.{verdictOf, IsAccepted}
 use Rattle.rules.specs.State.{View, view, memoryPlace, pagePlace}
 use Rattle.rules.specs.Heap.{typeOf}
 use Rattle.rules.specs.Step.{stuck, effectOf}
 use Rattle.rules.specs.Run.{Step, stepOf, stateAfter, outputAfter, Trace, noSteps, runOf, stuckSteps}
 use Rattle.rules.specs.StateTest.{Passes, decPasses}
 use Rattle.rules.specs.Host.{Outcome, ended, stopped, running, Went, refused, went, noAnswer, opened, Part, emptyPart, onVerdict, outcomeOf, wentOf, goOf, firstState, openOf, objectIn, objectOf}
-use Rattle.rules.specs.Claim.{SafeStep, IsAccepted}
+use Rattle.rules.specs.Claim.{SafeStep}
 use Rattle.rules.specs.declared.Verdict.{Verdict}
 use Rattle.rules.specs.declared.Verdict.the-variants.{Accepted, Refused}
 use Rattle.state.specs.Effects.{Bounded}

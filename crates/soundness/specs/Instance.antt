@@ -10,15 +10,15 @@ use lib.ListN.{length, replicate, length-replicate}
 use Rattle.words.specs.Bytes.{Bytes, AllBytes}
 use Rattle.words.specs.Choose.{cond-eq}
 use Rattle.rules.specs.Limits.{outputBytes, stateBytes}
-use Rattle.rules.specs.Verdict.{verdictOf}
-use Rattle.rules.specs.Step.{Effect, set, fetch, save, takePlace, grantPage, freePlace, goTo, emit, push, pop, finish, stop, stuck}
+use Rattle.rules.specs.Verdict.{verdictOf, IsAccepted}
+use Rattle.rules.specs.Step.{Effect, assign, fetch, save, takePlace, grantPage, freePlace, goTo, emit, push, pop, finish, stop, stuck}
 use Rattle.rules.specs.Run.{Step, Trace}
 use Rattle.rules.specs.Host.{Outcome, ended, went, notOpened, opened, openOf, goOf}
-use Rattle.rules.specs.Claim.{granted, handedBack, Call, Lent, Claim, fromOpening, IsAccepted}
+use Rattle.rules.specs.Claim.{granted, handedBack, Call, Lent, Claim, fromOpening}
 use Rattle.words.specs.Bits.{bit, withBit}
 use Rattle.words.specs.Bytes.{number, little, splice, listFrom}
 use Rattle.words.specs.First.{firstFrom, first, sumBelow}
-use Rattle.rules.specs.Decide.{decBoth, decEither, decImp, decNot, decAll, decAny, decThe, mapDec, decList, decEach}
+use Rattle.words.specs.Decide.{decBoth, decEither, decImp, decNot, decAll, decAny, decThe, mapDec, decList, decEach}
 use Rattle.rules.specs.Types.{decRegion, sub, decTree, decUses, decPrimitive}
 use Rattle.rules.specs.Flat.{decPlaced, decPrims, beside, copiesOf, copies, subLayout, flatWith, fieldsFrom, fieldsWith, layouts, flat, decRun, positionAt, decSame, structFlat}
 use Rattle.rules.specs.Decision.{asInt, asPtr, asArr, decReg, withInt, withPtr, anInt, aPtr, decConstant, decCopy, decOperate, decZero, decSigned, decAddress, decCheck, decField, decIndex, decThrough, decLoad, decStore, decWhole, decNew, decFree, decInput, decOutput, decJump, decBranch, decCall, decReturn, decTyped}
@@ -55,7 +55,7 @@ example = file
 
 -- an effect as numbers
 shown : Effect → List ℕ
-shown (set a x) = 0 ∷ a ∷ x ∷ []
+shown (assign a x) = 0 ∷ a ∷ x ∷ []
 shown (fetch b a x w) = 1 ∷ b ∷ a ∷ x ∷ w ∷ []
 shown (save b x w y) = 2 ∷ b ∷ x ∷ w ∷ y ∷ []
 shown (takePlace p j a x) = 3 ∷ p ∷ j ∷ a ∷ x ∷ []

@@ -8,7 +8,7 @@ use native.Mathlib.Decide.{ℕ-discrete, decLt}
 use native.Mathlib.Omega.{arith}
 use Rattle.words.specs.Choose.{cond-no, came-no, cond-split}
 use Rattle.rules.specs.Limits.{pages, pageBytes, mostFrames, liveRegions}
-use Rattle.rules.specs.Decide.{does-true, does-false}
+use Rattle.words.specs.Decide.{does-true, does-false}
 use Rattle.rules.specs.Types.{variable, live, Variable, region, Tree, width, arg, Uses}
 use Rattle.rules.specs.Module.{Module, regions, argument, call}
 use Rattle.rules.specs.Flat.{size}
@@ -82,7 +82,7 @@ frames-less m fn pc map k s = record {
 }
 
 -- one frame more
-frames-more : (m : Module) (fn pc : ℕ → ℕ) (map : ℕ → ℕ → ℕ) (n : ℕ) → FramesOk m fn pc map n → n < mostFrames → 0 < n → fn n < m .functions → pc n < m .function (fn n) .length
+frames-more : (m : Module) (fn pc : ℕ → ℕ) (map : ℕ → ℕ → ℕ) (n : ℕ) → FramesOk m fn pc map n → n < mostFrames → 0 < n → fn n < m .functions → pc n < m .function (fn n) .codeLength
     → ((k : ℕ) → suc k ≡ n → Chained m fn pc map k)
     → ((i : ℕ) → i < m .function (fn n) .locals → (j : ℕ) → j < m .function (fn n) .locals → i ≢ j → map n (m .function (fn n) .regionParams + i) ≢ map n (m .function (fn n) .regionParams + j))
     → ((i : ℕ) → i < m .function (fn n) .locals → ¬ Live m fn map n (suc (map n (m .function (fn n) .regionParams + i))))
@@ -101,11 +101,11 @@ frames-more m fn pc map n s few some known stands link different fresh numbered 
 
 -- ---- an instruction further, or elsewhere, in the top frame
 
-frames-move : (m : Module) (fn pc : ℕ → ℕ) (map : ℕ → ℕ → ℕ) (k d : ℕ) → FramesOk m fn pc map (suc k) → d < m .function (fn k) .length → FramesOk m fn (upd pc k d) map (suc k)
+frames-move : (m : Module) (fn pc : ℕ → ℕ) (map : ℕ → ℕ → ℕ) (k d : ℕ) → FramesOk m fn pc map (suc k) → d < m .function (fn k) .codeLength → FramesOk m fn (upd pc k d) map (suc k)
 frames-move m fn pc map k d s h = record {
   few = s .few;
   known = s .known;
-  stands = λ j l. upd-cases (λ (x : ℕ). x < m .function (fn j) .length) pc k d j (λ e. rw e h) (λ e. s .stands j l);
+  stands = λ j l. upd-cases (λ (x : ℕ). x < m .function (fn j) .codeLength) pc k d j (λ e. rw e h) (λ e. s .stands j l);
   lowest = s .lowest;
   chain = λ j l. chained-agree m fn pc fn (upd pc k d) map map j refl refl (upd-other pc k d j (omega arith)) refl refl (s .chain j l);
   different = s .different;
@@ -113,7 +113,7 @@ frames-move m fn pc map k d s h = record {
   numbered = s .numbered;
 }
 
-pub good-moved : (m : Module) (v : View) (k d : ℕ) → Good m v (suc k) → d < m .function (v .fn k) .length → Good m (moved k d v) (suc k)
+pub good-moved : (m : Module) (v : View) (k d : ℕ) → Good m v (suc k) → d < m .function (v .fn k) .codeLength → Good m (moved k d v) (suc k)
 good-moved m v k d g h = record {
   frames = frames-move m (v .fn) (v .pc) (v .map) k d (g .frames) h;
   page0 = g .page0;
@@ -125,7 +125,7 @@ good-moved m v k d g h = record {
 
 -- ---- 16 to 25: a register
 
-pub good-wrote : (m : Module) (v : View) (k a x : ℕ) → Good m v (suc k) → suc (v .pc k) < m .function (v .fn k) .length
+pub good-wrote : (m : Module) (v : View) (k a x : ℕ) → Good m v (suc k) → suc (v .pc k) < m .function (v .fn k) .codeLength
     → Value m (heapTyping m v (suc k)) (close (v .map k) (m .function (v .fn k) .registerType a)) x → Good m (wrote k a x v) (suc k)
 good-wrote m v k a x g h y = record {
   frames = frames-move m (v .fn) (v .pc) (v .map) k (suc (v .pc k)) (g .frames) h;

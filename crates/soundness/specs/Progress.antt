@@ -15,7 +15,7 @@ use Rattle.words.specs.Bytes.{Bytes, AllBytes, byteAt}
 use Rattle.words.specs.FirstLaws.{firstFrom-least}
 use Rattle.words.specs.Choose.{cond-lt, cond-nlt, cond-split, split-lt, split-eq, both, true-not-false}
 use Rattle.rules.specs.Limits.{pages, pageBytes, firstPage, pastPage, mostFrames, outputBytes}
-use Rattle.rules.specs.Decide.{does, does-true, decAll}
+use Rattle.words.specs.Decide.{does, does-true, decAll}
 use Rattle.rules.specs.Types.{variable, live, Variable, region, Tree, int, ptr, arr, sub, width, arg, Uses, in-ptr, Primitive}
 use Rattle.rules.specs.Module.{Module, Function, regions, argument, Instruction, operate, address, check, new, call}
 use Rattle.rules.specs.Flat.{flat, size, distance, Same}
@@ -24,7 +24,7 @@ use Rattle.rules.specs.Decision.{decTyped}
 use Rattle.rules.specs.State.{View}
 use Rattle.rules.specs.Heap.{close, decLive, liveList, typeOf, HeapTyping, heapTyping, placesInPage, Stands, decStands, Value}
 use Rattle.rules.specs.Arithmetic.{Computed, value, halt, operationOf, operated, cut, signExtended}
-use Rattle.rules.specs.Step.{Effect, set, takePlace, grantPage, freePlace, goTo, emit, push, pop, stop, need, onInt, onPtr, onArr, onCall, StandsAtCall, decStandsAtCall, lowestNumbers, Home, decHome, unusedPlace, hasRoom, roomPage, unownedPage, allocate, notZero, computed, Held, decHeld, calleeMap, calleeRegisters, returned, exec, effectAt}
+use Rattle.rules.specs.Step.{Effect, assign, takePlace, grantPage, freePlace, goTo, emit, push, pop, stop, need, onInt, onPtr, onArr, onCall, StandsAtCall, decStandsAtCall, lowestNumbers, Home, decHome, unusedPlace, hasRoom, roomPage, unownedPage, allocate, notZero, computed, Held, decHeld, calleeMap, calleeRegisters, returned, exec, effectAt}
 use Rattle.rules.specs.StateTest.{Listed, Chained, site-unique}
 use Rattle.rules.specs.Claim.{Touches}
 use Rattle.layout.specs.TypesOk.{GoodTree, good-ptr}
@@ -132,12 +132,12 @@ module _ (m : Module) (ok : ModuleOk m) (form : Bytes) (bytes : AllBytes form) (
       elim x [ inl z ↦ absurd (n z) | inr h ↦ h ]
 
   -- an integer, or a run, into a register
-  set-int : (a w x : ℕ) → top m v k ⊢ a ∶ int w → Next m v k → x < 256 ^ w → Safe m v k (set a x)
+  set-int : (a w x : ℕ) → top m v k ⊢ a ∶ int w → Next m v k → x < 256 ^ w → Safe m v k (assign a x)
   unfolding sub
   set-int a w x r n h = record { register = r .0; next = n; value = rw (r .1) h }
 
   set-run : (a : ℕ) (T : Tree variable) (r : Variable) (x : ℕ) → top m v k ⊢ a ∶ ptr T r → Next m v k
-      → Stands m (heapTyping m v (suc k)) (close (v .map k) T) (v .map k (r .number)) x → Safe m v k (set a x)
+      → Stands m (heapTyping m v (suc k)) (close (v .map k) T) (v .map k (r .number)) x → Safe m v k (assign a x)
   unfolding sub
   set-run a T r x p n h = record { register = p .0; next = n; value = rw (p .1) (inr h) }
 
@@ -184,11 +184,11 @@ module _ (m : Module) (ok : ModuleOk m) (form : Bytes) (bytes : AllBytes form) (
       need-safe (Safe m v k) (decHeld m form v k (top m v k) b) _ (held b hb)
       (onPtr-safe (Safe m v k) (top m v k .registerType a) T r
       (λ T r. need (decHome m (v .fn) (v .map) k (top m v k) r) (cond (eqb (v .reg k b) 0) (stop 32)
-      (cond (does (decStands m (heapTyping m v (suc k)) (close (v .map k) T) (v .map k r) (v .reg k b))) (set a (v .reg k b)) (stop 32))))
+      (cond (does (decStands m (heapTyping m v (suc k)) (close (v .map k) T) (v .map k r) (v .reg k b))) (assign a (v .reg k b)) (stop 32))))
       (ra .1)
       (need-safe (Safe m v k) (decHome m (v .fn) (v .map) k (top m v k) (r .number)) _ (home (r .number) (pointer-scope a T r ra))
       (split-eq (Safe m v k) (v .reg k b) 0 (stop 32) _ (λ z. listed 32 (omega arith) (omega arith))
-      (λ z. cond-split (Safe m v k) (does (decStands m (heapTyping m v (suc k)) (close (v .map k) T) (v .map k (r .number)) (v .reg k b))) (set a (v .reg k b)) (stop 32)
+      (λ z. cond-split (Safe m v k) (does (decStands m (heapTyping m v (suc k)) (close (v .map k) T) (v .map k (r .number)) (v .reg k b))) (assign a (v .reg k b)) (stop 32)
       (λ h. set-run a T r (v .reg k b) ra n (does-true (decStands m (heapTyping m v (suc k)) (close (v .map k) T) (v .map k (r .number)) (v .reg k b)) h))
       (λ h. listed 32 (omega arith) (omega arith))))))
 
@@ -363,19 +363,19 @@ module _ (m : Module) (ok : ModuleOk m) (form : Bytes) (bytes : AllBytes form) (
       ap (close (v .map k)) (r .1) ∙ ap (λ (j : ℕ). close (v .map j) (m .function (v .fn j) .result)) (sym e)
       ∙ sym (through-types m ok (v .fn) (v .pc) (v .map) (suc k) (g .frames) c l (m .function (v .fn (suc c)) .result) (ok .function (v .fn (suc c)) (g .frames .known (suc c) inside) .resultScope))
       ∙ ap (close (v .map c)) (sym (rule .result .1)) in
-      let on : GoesOn (call (h .site .result) (h .site .callee) (h .site .regions) (h .site .arguments)) (v .pc c) (m .function (v .fn c) .length) =
-      subst (λ (i : Instruction). GoesOn i (v .pc c) (m .function (v .fn c) .length)) (h .site .is) (caller .goesOn (v .pc c) (g .frames .stands c below)) in
+      let on : GoesOn (call (h .site .result) (h .site .callee) (h .site .regions) (h .site .arguments)) (v .pc c) (m .function (v .fn c) .codeLength) =
+      subst (λ (i : Instruction). GoesOn i (v .pc c) (m .function (v .fn c) .codeLength)) (h .site .is) (caller .goesOn (v .pc c) (g .frames .stands c below)) in
       let popped : SafePop m v k c (h .site .result) (v .reg k a) = record { caller = sym e; register = rule .result .0; next = on; value = rw same at (held a (r .0)) } in
       need-safe (Safe m v k) (ℕ-discrete (h .site .callee) (v .fn k)) _ (l .callee ∙ ap (v .fn) e)
       (need-safe (Safe m v k) (decTyped m (m .function (v .fn c)) (m .function (v .fn c) .code (v .pc c))) (pop c (h .site .result) (v .reg k a)) (caller .typed (v .pc c) (g .frames .stands c below)) popped))
 
   -- ---- all kinds
 
-  kind-safe : {i : Instruction} → top m v k .code (v .pc k) ≡ i → Typed m (top m v k) i → GoesOn i (v .pc k) (top m v k .length) → Safe m v k (exec m form v k (top m v k) i)
+  kind-safe : {i : Instruction} → top m v k .code (v .pc k) ≡ i → Typed m (top m v k) i → GoesOn i (v .pc k) (top m v k .codeLength) → Safe m v k (exec m form v k (top m v k) i)
   unfolding exec
   kind-safe e (t-constant {a} {d} {w} ra h) n = set-int a w d ra n h
   kind-safe e (t-copy {a} {b} {T} rb ra) n =
-      need-safe (Safe m v k) (decHeld m form v k (top m v k) b) (set a (v .reg k b)) (held b (rb .0))
+      need-safe (Safe m v k) (decHeld m form v k (top m v k) b) (assign a (v .reg k b)) (held b (rb .0))
       (record { register = ra .0; next = n; value = rw (ra .1 ∙ sym (rb .1)) (held b (rb .0)) })
   kind-safe e (t-operate {o} {a} {b} {c} {w} l rb rc ra) n =
       operate-safe o a b c w w rb rc ra n (operate-fits o w (v .reg k b) (v .reg k c) l (int-held b w rb) (int-held c w rc))
@@ -385,12 +385,12 @@ module _ (m : Module) (ok : ModuleOk m) (form : Bytes) (bytes : AllBytes form) (
       operate-safe o a b c w 1 rb rc ra n (compare-fits o w (v .reg k b) (v .reg k c) l h)
   kind-safe e (t-zeroExtend {a} {b} {v = u} {w} rb ra) n =
       need-safe (Safe m v k) (decHeld m form v k (top m v k) b) _ (held b (rb .0))
-      (onInt-safe (Safe m v k) (top m v k .registerType a) w (λ u. set a (cut u (v .reg k b))) (ra .1)
+      (onInt-safe (Safe m v k) (top m v k .registerType a) w (λ u. assign a (cut u (v .reg k b))) (ra .1)
       (set-int a w (cut w (v .reg k b)) ra n (cut-lt w (v .reg k b))))
   kind-safe e (t-signExtend {a} {b} {v = u} {w} rb ra) n =
       need-safe (Safe m v k) (decHeld m form v k (top m v k) b) _ (held b (rb .0))
-      (onInt-safe (Safe m v k) (top m v k .registerType a) w (λ x. onInt (top m v k .registerType b) (λ y. set a (signExtended x y (v .reg k b)))) (ra .1)
-      (onInt-safe (Safe m v k) (top m v k .registerType b) u (λ y. set a (signExtended w y (v .reg k b))) (rb .1)
+      (onInt-safe (Safe m v k) (top m v k .registerType a) w (λ x. onInt (top m v k .registerType b) (λ y. assign a (signExtended x y (v .reg k b)))) (ra .1)
+      (onInt-safe (Safe m v k) (top m v k .registerType b) u (λ y. assign a (signExtended w y (v .reg k b))) (rb .1)
       (set-int a w (signExtended w u (v .reg k b)) ra n (sign-lt w u (v .reg k b)))))
   kind-safe e (t-address {a} {b} {r} {T} rb ra) n =
       need-safe (Safe m v k) (decHeld m form v k (top m v k) b) _ (held b (rb .0)) (set-int a 4 (v .reg k b) ra n (address-lt b T r rb))
@@ -398,7 +398,7 @@ module _ (m : Module) (ok : ModuleOk m) (form : Bytes) (bytes : AllBytes form) (
   kind-safe e (t-checkPointer {a} {b} {q} {r} {S} {T} rb ra) n = check-safe a b T r (rb .0) ra n
   kind-safe e (t-field {a} {b} {d} {r} {T} {U} rb ra run) n =
       need-safe (Safe m v k) (decHeld m form v k (top m v k) b) _ (held b (rb .0))
-      (onPtr-safe (Safe m v k) (top m v k .registerType b) T r (λ T r. notZero (v .reg k b) (set a (v .reg k b + distance (flat m T) d))) (rb .1)
+      (onPtr-safe (Safe m v k) (top m v k .registerType b) T r (λ T r. notZero (v .reg k b) (assign a (v .reg k b + distance (flat m T) d))) (rb .1)
       (notZero-safe (Safe m v k) (v .reg k b) _ (listed 31 (omega arith) (omega arith))
       (λ z. set-run a U r (v .reg k b + distance (flat m T) d) ra n
       (stands-field m (ok .types) (heapTyping m v (suc k)) (v .map k) T U (v .map k (r .number)) (v .reg k b) d (pointee-ok b T r rb) (pointee-ok a U r ra) run (pointed b T r rb z)))))
@@ -406,10 +406,10 @@ module _ (m : Module) (ok : ModuleOk m) (form : Bytes) (bytes : AllBytes form) (
       need-safe (Safe m v k) (decHeld m form v k (top m v k) b) _ (held b (rb .0))
       (need-safe (Safe m v k) (decHeld m form v k (top m v k) c) _ (held c (rc .0))
       (onPtr-safe (Safe m v k) (top m v k .registerType b) (arr count T) r
-      (λ T r. onArr T (λ x U. notZero (v .reg k b) (cond (ltb (v .reg k c) x) (set a (v .reg k b + v .reg k c * size m U)) (stop 33)))) (rb .1)
+      (λ T r. onArr T (λ x U. notZero (v .reg k b) (cond (ltb (v .reg k c) x) (assign a (v .reg k b + v .reg k c * size m U)) (stop 33)))) (rb .1)
       (unfold onArr in
       notZero-safe (Safe m v k) (v .reg k b) _ (listed 31 (omega arith) (omega arith))
-      (λ z. split-lt (Safe m v k) (v .reg k c) count (set a (v .reg k b + v .reg k c * size m T)) (stop 33)
+      (λ z. split-lt (Safe m v k) (v .reg k c) count (assign a (v .reg k b + v .reg k c * size m T)) (stop 33)
       (λ h. set-run a T r (v .reg k b + v .reg k c * size m T) ra n
       (stands-element m (ok .types) (heapTyping m v (suc k)) (v .map k) T count (v .map k (r .number)) (v .reg k b) (v .reg k c) (pointee-ok b (arr count T) r rb) h (pointed b (arr count T) r rb z)))
       (λ h. listed 33 (omega arith) (omega arith))))))
@@ -449,7 +449,7 @@ module _ (m : Module) (ok : ModuleOk m) (form : Bytes) (bytes : AllBytes form) (
       (notZero-safe (Safe m v k) (v .reg k a) _ (listed 31 (omega arith) (omega arith)) (λ z. free-safe a T r ra n z))))
   kind-safe e (t-input {a} {c} rc ra) n =
       need-safe (Safe m v k) (decHeld m form v k (top m v k) c) _ (held c (rc .0))
-      (split-lt (Safe m v k) (v .reg k c) (length form) (set a (byteAt form (v .reg k c))) (stop 38)
+      (split-lt (Safe m v k) (v .reg k c) (length form) (assign a (byteAt form (v .reg k c))) (stop 38)
       (λ h. set-int a 1 (byteAt form (v .reg k c)) ra n (bytes (v .reg k c)))
       (λ h. listed 38 (omega arith) (omega arith)))
   kind-safe e (t-output {b} rb) n =
@@ -477,6 +477,6 @@ module _ (m : Module) (ok : ModuleOk m) (form : Bytes) (bytes : AllBytes form) (
       let typed = facts .typed (v .pc k) (g .frames .stands k low) in
       need-safe (Safe m v k) (decLt k mostFrames) _ (g .frames .few)
       (need-safe (Safe m v k) (decLt (v .fn k) (m .functions)) _ (g .frames .known k low)
-      (need-safe (Safe m v k) (decLt (v .pc k) (top m v k .length)) _ (g .frames .stands k low)
+      (need-safe (Safe m v k) (decLt (v .pc k) (top m v k .codeLength)) _ (g .frames .stands k low)
       (need-safe (Safe m v k) (decTyped m (top m v k) (top m v k .code (v .pc k))) _ typed
       (kind-safe refl typed (facts .goesOn (v .pc k) (g .frames .stands k low))))))

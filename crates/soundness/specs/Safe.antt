@@ -8,7 +8,7 @@ use Rattle.rules.specs.Module.{Module}
 use Rattle.rules.specs.Flat.{size}
 use Rattle.rules.specs.State.{View}
 use Rattle.rules.specs.Heap.{close, Live, typeOf, heapTyping, Value}
-use Rattle.rules.specs.Step.{Effect, set, fetch, save, takePlace, grantPage, freePlace, goTo, emit, push, pop, finish, stop, stuck}
+use Rattle.rules.specs.Step.{Effect, assign, fetch, save, takePlace, grantPage, freePlace, goTo, emit, push, pop, finish, stop, stuck}
 use Rattle.rules.specs.StateTest.{Listed}
 use Rattle.rules.specs.Claim.{Touches}
 use Rattle.layout.specs.Heap.{Slot}
@@ -17,7 +17,7 @@ use Rattle.soundness.specs.Preserve.{SafePush}
 
 -- the top frame can go on to its next instruction
 abbrev pub Next : Module → View → ℕ → Type 0
-Next m v k = suc (v .pc k) < m .function (v .fn k) .length
+Next m v k = suc (v .pc k) < m .function (v .fn k) .codeLength
 
 -- register a of frame k becomes x
 pub record SafeSet (m : Module) (v : View) (k a x : ℕ) : Type 0 where
@@ -64,17 +64,17 @@ pub record SafeFree (m : Module) (v : View) (k p j : ℕ) : Type 0 where
 pub record SafePop (m : Module) (v : View) (k c a x : ℕ) : Type 0 where
   pub caller : k ≡ suc c
   pub register : a < m .function (v .fn c) .registers
-  pub next : suc (v .pc c) < m .function (v .fn c) .length
+  pub next : suc (v .pc c) < m .function (v .fn c) .codeLength
   pub value : Value m (heapTyping m v (suc k)) (close (v .map c) (m .function (v .fn c) .registerType a)) x
 
 abbrev pub Safe : Module → View → ℕ → Effect → Type 0
-Safe m v k (set a x) = SafeSet m v k a x
+Safe m v k (assign a x) = SafeSet m v k a x
 Safe m v k (fetch b a x w) = SafeFetch m v k b a x w
 Safe m v k (save b x w y) = SafeSave m v k b x w y
 Safe m v k (takePlace p j a x) = SafeTake m v k p j a x
 Safe m v k (grantPage p r a) = SafeGrant m v k p r a
 Safe m v k (freePlace p j) = SafeFree m v k p j
-Safe m v k (goTo d) = d < m .function (v .fn k) .length
+Safe m v k (goTo d) = d < m .function (v .fn k) .codeLength
 Safe m v k (emit x) = Next m v k × (v .outputCount < outputBytes) × (x < 256)
 Safe m v k (push g μ ρ) = SafePush m v k g μ ρ
 Safe m v k (pop c a x) = SafePop m v k c a x

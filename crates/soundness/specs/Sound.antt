@@ -12,7 +12,7 @@ use Rattle.words.specs.Bytes.{Bytes, AllBytes}
 use Rattle.rules.specs.Limits.{pages}
 use Rattle.rules.specs.Module.{Module}
 use Rattle.rules.specs.State.{View, view}
-use Rattle.rules.specs.Step.{Effect, set, fetch, save, takePlace, grantPage, freePlace, goTo, emit, push, pop, finish, stop, stuck, effectAt, effectOf, grantedBy, handedBackBy}
+use Rattle.rules.specs.Step.{Effect, assign, fetch, save, takePlace, grantPage, freePlace, goTo, emit, push, pop, finish, stop, stuck, effectAt, effectOf, grantedBy, handedBackBy}
 use Rattle.rules.specs.Run.{Step, topOf, stepOf, stateAfter, outputAfter, Trace, noSteps, runOf, isStuck, stuckSteps}
 use Rattle.rules.specs.StateTest.{StatusOk, running, stopped, ended, SpareOk}
 use Rattle.rules.specs.Claim.{SafeStep, AllSafe, owned, granted, handedBack}
@@ -35,7 +35,7 @@ not-stuck : (m : Module) (v : View) (k : ℕ) (e : Effect) → Safe m v k e → 
 not-stuck m v k e f h = subst (λ (x : Effect). Safe m v k x) h f
 
 stuck-none : (m : Module) (v : View) (k : ℕ) (e : Effect) → Safe m v k e → isStuck e ≡ 0
-stuck-none m v k (set a x) f = refl
+stuck-none m v k (assign a x) f = refl
 stuck-none m v k (fetch b a x w) f = refl
 stuck-none m v k (save b x w y) f = refl
 stuck-none m v k (takePlace p j a x) f = refl

@@ -13,7 +13,7 @@ use Rattle.rules.specs.Types.{width}
 use Rattle.rules.specs.Module.{Module, regions}
 use Rattle.rules.specs.State.{View, memoryNumber}
 use Rattle.rules.specs.Heap.{close, heapTyping}
-use Rattle.rules.specs.Step.{Effect, set, fetch, save, takePlace, grantPage, freePlace, goTo, emit, push, pop, finish, stop, stuck, grantedBy, handedBackBy}
+use Rattle.rules.specs.Step.{Effect, assign, fetch, save, takePlace, grantPage, freePlace, goTo, emit, push, pop, finish, stop, stuck, grantedBy, handedBackBy}
 use Rattle.rules.specs.StateTest.{StatusOk, running, stopped, ended, SpareOk}
 use Rattle.rules.specs.Claim.{ownedBelow}
 use Rattle.layout.specs.Types.{outer-close}
@@ -31,7 +31,7 @@ use Rattle.soundness.specs.Safe.{SafePop, Safe}
 
 -- a page that is granted was unowned
 grants-unowned : (m : Module) (v : View) (k : ℕ) (e : Effect) → Safe m v k e → GrantsUnowned v e
-grants-unowned m v k (set a x) f = tt
+grants-unowned m v k (assign a x) f = tt
 grants-unowned m v k (fetch b a x w) f = tt
 grants-unowned m v k (save b x w y) f = tt
 grants-unowned m v k (takePlace p j a x) f = tt
@@ -104,7 +104,7 @@ going m u n e s z o g c = record {
 -- Preservation: after a safe effect of a good state, with top frame k, the state passes the test.
 pub preserve : (m : Module) → ModuleOk m → (v : View) (k : ℕ) (e : Effect) → v .frames ≡ suc k → v .status ≡ 0 → v .result ≡ 0 → v .outputCount ≤ outputBytes
     → Good m v (suc k) → SpareOk m v (suc k) → Safe m v k e → Test m (apply m k e v)
-preserve m ok v k (set a x) n s z o g c f = going m (wrote k a x v) k n s z o (good-wrote m v k a x g (f .next) (f .value)) (spare-wrote m v k a x c (f .register))
+preserve m ok v k (assign a x) n s z o g c f = going m (wrote k a x v) k n s z o (good-wrote m v k a x g (f .next) (f .value)) (spare-wrote m v k a x c (f .register))
 preserve m ok v k (fetch b a x w) n s z o g c f =
     let y : ℕ = memoryNumber (v .memory) x w in
     going m (wrote k a y v) k n s z o

@@ -16,14 +16,14 @@ use Rattle.rules.specs.Limits.{pageBytes, memoryBytes}
 use Rattle.rules.specs.Module.{Module}
 use Rattle.rules.specs.Flat.{flat, size}
 use Rattle.rules.specs.Decode.{moduleOf}
-use Rattle.rules.specs.Verdict.{verdictOf}
+use Rattle.rules.specs.Verdict.{verdictOf, IsAccepted}
 use Rattle.rules.specs.State.{View, view, memoryPlace}
 use Rattle.rules.specs.Heap.{close}
-use Rattle.rules.specs.Step.{Effect, set, fetch, save, takePlace, grantPage, freePlace, goTo, emit, push, pop, finish, stop, stuck, effectOf, closes}
+use Rattle.rules.specs.Step.{Effect, assign, fetch, save, takePlace, grantPage, freePlace, goTo, emit, push, pop, finish, stop, stuck, effectOf, closes}
 use Rattle.rules.specs.Writes.{applyState, applyOutput}
 use Rattle.rules.specs.Run.{Step, topOf, stepOf, stateAfter, outputAfter, Trace, noSteps, runOf}
 use Rattle.rules.specs.StateTest.{Passes}
-use Rattle.rules.specs.Claim.{Touches, SameButPages, Reads, SafeStep, IsAccepted}
+use Rattle.rules.specs.Claim.{Touches, SameButPages, Reads, SafeStep}
 use Rattle.layout.specs.Flat.{flat-inside}
 use Rattle.layout.specs.Close.{size-close}
 use Rattle.state.specs.Update.{upd, upd-cases, upd-other, stored, zeroed, zeroed-in, zeroed-out}
@@ -55,7 +55,7 @@ touched-owned m v k b x w i t l h z =
     omega arith
 
 reads-owned : (m : Module) (form s o : Bytes) → SafeStep m (stepOf m form s o) → (e : Effect) → effectOf m form (view s) ≡ e → (i : ℕ) → Reads e i → view s .owner (i / pageBytes) ≢ 0
-reads-owned m form s o h (set a x) e i r = absurd r
+reads-owned m form s o h (assign a x) e i r = absurd r
 reads-owned m form s o h (fetch b a x w) e i r = touched-owned m (view s) (topFrame s) b x w i (h .loads b a x w e) (r .0) (r .1)
 reads-owned m form s o h (save b x w y) e i r = absurd r
 reads-owned m form s o h (takePlace p j a x) e i r = absurd r
@@ -83,7 +83,7 @@ stored-same f g x (suc w) y i e =
 -- equal in the owned pages before, equal in those owned after
 memory-same : (m : Module) (k : ℕ) (e : Effect) (v : View) (M : ℕ → ℕ) (i : ℕ) → (v .owner (i / pageBytes) ≢ 0 → M i ≡ v .memory i)
     → apply m k e v .owner (i / pageBytes) ≢ 0 → apply m k e (withMemory M v) .memory i ≡ apply m k e v .memory i
-memory-same m k (set a x) v M i h n = h n
+memory-same m k (assign a x) v M i h n = h n
 memory-same m k (fetch b a x w) v M i h n = h n
 memory-same m k (save b x w y) v M i h n = stored-same M (v .memory) x w y i (h n)
 memory-same m k (takePlace p j a x) v M i h n = h n
@@ -103,7 +103,7 @@ memory-same m k stuck v M i h n = h n
 
 -- the bounds of an effect do not depend on the page bytes
 bounded-same : (v : View) (M : ℕ → ℕ) (k : ℕ) (e : Effect) → Bounded v k e → Bounded (withMemory M v) k e
-bounded-same v M k (set a x) b = (record { frame = b .0 .frame; next = b .0 .next }, b .1)
+bounded-same v M k (assign a x) b = (record { frame = b .0 .frame; next = b .0 .next }, b .1)
 bounded-same v M k (fetch r a x w) b = (record { frame = b .0 .frame; next = b .0 .next }, b .1)
 bounded-same v M k (save r x w y) b = (record { frame = b .0 .frame; next = b .0 .next }, b .1)
 bounded-same v M k (takePlace p j a x) b = (record { frame = b .0 .frame; next = b .0 .next }, b .1)

@@ -64,7 +64,7 @@ code-few f h all l = omega (arith, registers-far f h, c-byte f h all)
 -- frame k is of a function of the module, at one of its instructions
 pub record Stands (f s : Bytes) (k : ℕ) : Type 0 where
   pub known : frameFunction s k < moduleOf f .functions
-  pub inside : frameInstruction s k < functionAt f s k .length
+  pub inside : frameInstruction s k < functionAt f s k .codeLength
 
 -- the record of its instruction
 unfoldable pub callAt : Bytes → Bytes → ℕ → Record
@@ -223,7 +223,7 @@ place-is f g i {h} {r} {p} l eh er ep = ep ∙ ap (λ (q : ℕ). skip f q i) (er
 pub stands-by : {f s : Bytes} {k functions g i n : ℕ} → functions ≡ moduleOf f .functions → g ≡ frameFunction s k → i ≡ frameInstruction s k
     → n ≡ instructionsOf (headAt f s k) → Tells (ltb g functions && ltb i n) (Stands f s k)
 stands-by {f} {s} {k} {functions} {g} {i} {n} ef eg ei en =
-    let e : n ≡ functionAt f s k .length = en ∙ sym (length-at f s k) in
+    let e : n ≡ functionAt f s k .codeLength = en ∙ sym (length-at f s k) in
     tells-map (λ p. record { known = rw (← ef, ← eg) (p .0); inside = rw (← e, ← ei) (p .1) })
     (λ w. (rw (ef, eg) (w .known), rw (e, ei) (w .inside))) (tells-and (tells-lt g functions) (tells-lt i n))
 

@@ -72,7 +72,7 @@ module _ (f s : Bytes) (k : ℕ) where
   unfolding moduleOf functionOf
   regions-at = refl
 
-  pub length-at : functionAt f s k .length ≡ instructionsOf (headAt f s k)
+  pub length-at : functionAt f s k .codeLength ≡ instructionsOf (headAt f s k)
   unfolding moduleOf functionOf
   length-at = refl
 

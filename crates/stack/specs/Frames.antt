@@ -8,7 +8,7 @@ use native.Mathlib.Omega.{arith}
 use Rattle.words.specs.Bytes.{Bytes}
 use Rattle.words.specs.Choose.{lt-or-le, eq-or-ne}
 use Rattle.rules.specs.Limits.{mostFrames, liveRegions}
-use Rattle.rules.specs.Decide.{does}
+use Rattle.words.specs.Decide.{does}
 use Rattle.rules.specs.Decode.{moduleOf}
 use Rattle.rules.specs.State.{view, frameFunction, frameInstruction, frameMap}
 use Rattle.rules.specs.StateTest.{FramesOk, decFrames}

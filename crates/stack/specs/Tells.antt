@@ -8,7 +8,7 @@ use native.Mathlib.Omega.{arith}
 use lib.Dec.{eqb, ltb, leb}
 use borrow.Author.Tests.{ltb-true, lt-ltb, leb-true, le-leb, eqb-true, eq-eqb}
 use Rattle.words.specs.Choose.{true-not-false, false-by, lt-or-le, both, both-of, either, left-of, right-of}
-use Rattle.rules.specs.Decide.{does, does-true}
+use Rattle.words.specs.Decide.{does, does-true}
 use Rattle.typing.specs.Tests.{true-does}
 
 pub record Tells (b : Bool) (P : Type 0) : Type 0 where

@@ -15,7 +15,7 @@ use Rattle.rules.specs.Limits.{mostFrames, pages, pageBytes, memoryBytes, state
 use Rattle.rules.specs.Decision.{decTyped}
 use Rattle.rules.specs.Module.{Instruction, constant, copy, operate, zeroExtend, signExtend, address, check, field, index, load, store, new, free, input, output, jump, branch, call, return, Function, Module}
 use Rattle.rules.specs.State.{markPlace, memoryPlace, memoryByte, memoryNumber, View, view, Write, written, putStatus, putFrames, putOutputCount, putResult, putOwner, putMark, clearPage, putMemory, putInstruction, putFrame, clearMarks, clearFrame}
-use Rattle.rules.specs.Step.{Effect, set, fetch, save, takePlace, grantPage, freePlace, goTo, emit, push, pop, finish, stop, stuck, need, decHeld, calleeMap, calleeRegisters, returned, exec, effectAt, effectOf, closes}
+use Rattle.rules.specs.Step.{Effect, assign, fetch, save, takePlace, grantPage, freePlace, goTo, emit, push, pop, finish, stop, stuck, need, decHeld, calleeMap, calleeRegisters, returned, exec, effectAt, effectOf, closes}
 use Rattle.rules.specs.Writes.{closing, leaving, setAndOn, stateWrites, applyState}
 use Rattle.rules.specs.Claim.{SameButPages, Reads, Changes}
 use Rattle.state.specs.Update.{stored-apart, zeroed-in, zeroed-out, memoryNumber-agree}
@@ -60,7 +60,7 @@ module _ (m : Module) (form : Bytes) (M : ℕ → ℕ) (v : View) where
   unfolding effectAt
   effect-same zero = refl
   effect-same (suc k) =
-      ap (λ (e : Effect). need (decLt k mostFrames) (need (decLt (v .fn k) (m .functions)) (need (decLt (v .pc k) (m .function (v .fn k) .length)) (need (decTyped m (m .function (v .fn k)) (m .function (v .fn k) .code (v .pc k))) e))))
+      ap (λ (e : Effect). need (decLt k mostFrames) (need (decLt (v .fn k) (m .functions)) (need (decLt (v .pc k) (m .function (v .fn k) .codeLength)) (need (decTyped m (m .function (v .fn k)) (m .function (v .fn k) .code (v .pc k))) e))))
       (exec-same k (m .function (v .fn k)) (m .function (v .fn k) .code (v .pc k)))
 
 -- states that differ in page bytes only have one view but for the memory
@@ -138,7 +138,7 @@ module _ (m : Module) (k : ℕ) (s t : Bytes) (h : SameButPages s t) where
   pub reads-law : (e : Effect) → ((i : ℕ) → i < memoryBytes → Reads e i → byteAt s (memoryPlace i) ≡ byteAt t (memoryPlace i))
       → SameButPages (applyState m k e s) (applyState m k e t)
   unfolding applyState stateWrites written
-  reads-law (set a x) f = same-writes _ _ (from-view (λ v. setAndOn v k a x) (λ M v. refl)) s t h
+  reads-law (assign a x) f = same-writes _ _ (from-view (λ v. setAndOn v k a x) (λ M v. refl)) s t h
   reads-law (fetch b a x w) f =
       same-writes _ _
       (from-view (λ v. setAndOn v k a (memoryNumber (view s .memory) x w)) (λ M v. refl) ∙ ap (setAndOn (view t) k a) (numbers-same x w f)) s t h
@@ -165,7 +165,7 @@ module _ (m : Module) (k : ℕ) (s t : Bytes) (h : SameButPages s t) where
 
 -- of a view: a store changes its bytes, a grant its page, nothing else a page byte
 pub memory-kept : (m : Module) (k : ℕ) (e : Effect) (v : View) (i : ℕ) → ¬ Changes e i → apply m k e v .memory i ≡ v .memory i
-memory-kept m k (set a x) v i n = refl
+memory-kept m k (assign a x) v i n = refl
 memory-kept m k (fetch b a x w) v i n = refl
 memory-kept m k (save b x w y) v i n = stored-apart (v .memory) x w y i (side (decLt i x) (decLt i (x + w)))
   where
@@ -186,7 +186,7 @@ memory-kept m k stuck v i n = refl
 
 -- what a store or a grant leaves there depends on no page byte: the value stored, or zero
 pub memory-changed : (m : Module) (k : ℕ) (e : Effect) (u v : View) (i : ℕ) → Changes e i → apply m k e u .memory i ≡ apply m k e v .memory i
-memory-changed m k (set a x) u v i h = absurd h
+memory-changed m k (assign a x) u v i h = absurd h
 memory-changed m k (fetch b a x w) u v i h = absurd h
 memory-changed m k (save b x w y) u v i h =
     let a : i ≡ x + (i - x) = omega (arith, h .0) in

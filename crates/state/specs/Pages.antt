@@ -9,11 +9,11 @@ use native.Mathlib.Omega.{arith}
 use lib.Dec.{eqb}
 use Rattle.words.specs.Choose.{cond-ne, cond-eq}
 use Rattle.rules.specs.Limits.{pages}
-use Rattle.rules.specs.Decide.{does-true}
+use Rattle.words.specs.Decide.{does-true}
 use Rattle.rules.specs.Module.{Module}
 use Rattle.rules.specs.Heap.{decLocal}
 use Rattle.rules.specs.State.{View}
-use Rattle.rules.specs.Step.{Effect, set, fetch, save, takePlace, grantPage, freePlace, goTo, emit, push, pop, finish, stop, stuck, closes, closedPages, grantedBy, handedBackBy}
+use Rattle.rules.specs.Step.{Effect, assign, fetch, save, takePlace, grantPage, freePlace, goTo, emit, push, pop, finish, stop, stuck, closes, closedPages, grantedBy, handedBackBy}
 use Rattle.rules.specs.Claim.{ownedBelow}
 use Rattle.state.specs.Update.{upd, upd-same, upd-other}
 use Rattle.state.specs.Apply.{closedOwner, apply}
@@ -62,7 +62,7 @@ owned-closed m v k (suc p) = by (closes m v k p) refl (owned-closed m v k p)
 
 -- the page that is granted was unowned
 abbrev pub GrantsUnowned : View → Effect → Type 0
-GrantsUnowned v (set a x) = Unit {0}
+GrantsUnowned v (assign a x) = Unit {0}
 GrantsUnowned v (fetch b a x w) = Unit {0}
 GrantsUnowned v (save b x w y) = Unit {0}
 GrantsUnowned v (takePlace p j a x) = Unit {0}
@@ -78,7 +78,7 @@ GrantsUnowned v stuck = Unit {0}
 
 pub pages-apply : (m : Module) (v : View) (k : ℕ) (e : Effect) → GrantsUnowned v e
     → ownedBelow (apply m k e v .owner) pages + handedBackBy m v k e ≡ ownedBelow (v .owner) pages + grantedBy e
-pages-apply m v k (set a x) h = refl
+pages-apply m v k (assign a x) h = refl
 pages-apply m v k (fetch b a x w) h = refl
 pages-apply m v k (save b x w y) h = refl
 pages-apply m v k (takePlace p j a x) h = refl

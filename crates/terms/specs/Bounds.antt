@@ -7,7 +7,7 @@ use Prim.Native.Nat.{ℕ, zero, suc, max, _+_, _-_, _<_, _≤_}
 use native.Mathlib.Numerals.{add-one}
 use native.Mathlib.Omega.{arith}
 use Rattle.words.specs.Bytes.{Bytes, listFrom, listOf}
-use Rattle.rules.specs.Decide.{does, does-true, Each, none, more}
+use Rattle.words.specs.Decide.{does, does-true, Each, none, more}
 use Rattle.rules.specs.Types.{variable, Region, Variable, region, Tree, int, ptr, arr, struct, Uses, in-int, in-ptr, in-arr, in-struct, decUses}
 use Rattle.terms.specs.declared.Head.{Head}
 use Rattle.terms.specs.declared.Head.the-variants.{Int, Ptr, Arr, Struct}

@@ -16,7 +16,7 @@ use Rattle.words.specs.ByteLaws.{length-listOf, getD-listOf, listOf-agree}
 use Rattle.words.specs.Choose.{bool-same, both, both-of, either, neither, lt-or-le}
 use Rattle.words.specs.First.{allBelow}
 use Rattle.words.specs.FirstLaws.{all-holds, all-from}
-use Rattle.rules.specs.Decide.{does, does-true, decBoth, mapDec, decList}
+use Rattle.words.specs.Decide.{does, does-true, decBoth, mapDec, decList}
 use Rattle.rules.specs.Types.{RegionKind, variable, Region, Variable, region, decRegion, Tree, int, ptr, arr, struct, sub, arg, nowhere, decTree}
 use Rattle.rules.specs.Decode.{noTree, moduleOf}
 use Rattle.terms.specs.declared.Head.{Head}

@@ -11,7 +11,7 @@ use borrow.Author.Tests.{le-leb, leb-true}
 use Rattle.words.specs.Bytes.{Bytes}
 use Rattle.words.specs.ByteLaws.{length-listOf}
 use Rattle.words.specs.Choose.{bool-same}
-use Rattle.rules.specs.Decide.{does, does-true, mapDec}
+use Rattle.words.specs.Decide.{does, does-true, mapDec}
 use Rattle.rules.specs.Types.{variable, Region, Variable, region, Tree, int, ptr, arr, struct, form, numberOf, inner, regionOf, args, decTree, decUses, Primitive, decPrimitive}
 use Rattle.rules.specs.Decode.{noTree, moduleOf}
 use Rattle.terms.specs.declared.Head.{Head}

@@ -10,7 +10,7 @@ ghost use Rattle.words.specs.First.{allBelow};
 ghost use Rattle.rules.specs.File.{recordOf, byteOfD, entryOf};
 ghost use Rattle.rules.specs.Decode.{moduleOf};
 ghost use Rattle.rules.specs.Flat.{flat, structFlat};
-ghost use Rattle.rules.specs.Decide.{does};
+ghost use Rattle.words.specs.Decide.{does};
 ghost use Rattle.rules.specs.Types.{variable, live, int, sub, form, numberOf, regionOf, args, decTree, decUses, decPrimitive};
 ghost use Rattle.terms.specs.Heads.{digit, argsOf, placeOf, headFrom, headOf, formNo, mainNo, innerNo, regionNo, argsNo, wordNo};
 ghost use Rattle.terms.specs.HeadLaws.{Fair, Narrow};

@@ -12,7 +12,7 @@ use lib.ListN.{getD}
 use borrow.Author.Tests.{leb-true, eq-eqb, ne-eqb}
 use Rattle.words.specs.Bytes.{Bytes, listOf}
 use Rattle.rules.specs.Limits.{mostRegions, mostRegionParams, mostEntries, mostRegisters, mostInstructions}
-use Rattle.rules.specs.Decide.{does-true, decBoth, decImp}
+use Rattle.words.specs.Decide.{does-true, decBoth, decImp}
 use Rattle.rules.specs.Stages.{Stage}
 use Rattle.rules.specs.File.{blocks, records, recordOf, lengthRight, placeRight, checkRight, lengthStage, blockStage, blockTest, regionsOf, parametersOf, instructionsOf, within}
 use Rattle.rules.specs.Types.{variable, Tree}
@@ -21,8 +21,7 @@ use Rattle.rules.specs.Records.{headRanges, recordTest, recordStage}
 use Rattle.rules.specs.Decode.{treesOf, functionOf, moduleOf}
 use Rattle.rules.specs.Decision.{decTyped}
 use Rattle.rules.specs.WellTyped.{FunctionOk, EntryOk, Ranges, Tables, WellTyped, decTerm, decStruct, decFunction, decEntry, decLast}
-use Rattle.rules.specs.Verdict.{termTest, structTest, functionTest, instructionTest, instructionStage, lastStage, lastTest, moduleStages, acceptedAs, moduleRules, recordRules, verdictOf}
-use Rattle.rules.specs.Claim.{IsAccepted}
+use Rattle.rules.specs.Verdict.{termTest, structTest, functionTest, instructionTest, instructionStage, lastStage, lastTest, moduleStages, acceptedAs, moduleRules, recordRules, verdictOf, IsAccepted}
 use Rattle.typing.specs.Tests.{left, right, true-does}
 use Rattle.typing.specs.Stages.{AllPass, all-pass, pass-all, pass-append, append-pass, pass-each, each-pass}
 use Rattle.typing.specs.Walk.{Fits, good, some-function}
@@ -139,7 +138,7 @@ accepted f a =
       functions = λ g h. k g h .0;
       entry = k 0 (s .some) .1 refl;
       typed = λ g i h l. does-true (decTyped m (m .function g) (m .function g .code i)) (pass-each (instructionStage f m) 0 (m .functions) (e .0) g (omega arith) (omega arith) i l);
-      lasts = λ g h. does-true (decLast (m .function g .code (m .function g .length - 1))) (e .1 .0 g h);
+      lasts = λ g h. does-true (decLast (m .function g .code (m .function g .codeLength - 1))) (e .1 .0 g h);
     }
 
 -- a file whose framing and records pass, and whose module is well typed, is accepted, with its module's counts
@@ -162,7 +161,7 @@ complete f w t =
                     (t .functions g h, λ e. subst (λ (k : ℕ). EntryOk (m .function k)) (sym e) (t .entry))),
                 append-pass (listOf (instructionStage f m) (m .functions)) (lastStage f m ∷ [])
                     (each-pass (instructionStage f m) 0 (m .functions) (λ g h l i k. true-does (decTyped m (m .function g) (m .function g .code i)) (t .typed g i (omega arith) k)))
-                    ((λ g h. true-does (decLast (m .function g .code (m .function g .length - 1))) (t .lasts g h)), tt),
+                    ((λ g h. true-does (decLast (m .function g .code (m .function g .codeLength - 1))) (t .lasts g h)), tt),
               ),
             ),
           ),

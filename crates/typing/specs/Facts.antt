@@ -10,15 +10,14 @@ use lib.ListN.{length}
 use borrow.Author.Tests.{lt-ltb}
 use Rattle.words.specs.Bytes.{Bytes}
 use Rattle.rules.specs.Limits.{sizeLimit, mostFunctions}
-use Rattle.rules.specs.Decide.{Each, none, more}
+use Rattle.words.specs.Decide.{Each, none, more}
 use Rattle.rules.specs.Types.{variable, Variable, Tree, ptr, width, Uses, in-int, in-ptr, in-arr, in-struct, Primitive}
 use Rattle.rules.specs.Module.{Module, Function, regions, Instruction, constant, copy, operate, zeroExtend, signExtend, address, check, field, index, load, store, new, free, input, output, jump, branch, call, return}
 use Rattle.rules.specs.Flat.{size, structFlat}
 use Rattle.rules.specs.Decode.{moduleOf}
 use Rattle.rules.specs.Typing.{Typed}
 use Rattle.rules.specs.WellTyped.{scopeOf, FunctionOk, EntryOk, Ranges, Last, last-jump, last-return, WellTyped}
-use Rattle.rules.specs.Verdict.{verdictOf}
-use Rattle.rules.specs.Claim.{IsAccepted}
+use Rattle.rules.specs.Verdict.{verdictOf, IsAccepted}
 use Rattle.typing.specs.Accepted.{accepted}
 use Rattle.typing.specs.Types.{Deep, deep-ok, deep-target, primitive-width, width-small, DeepFunction, DeepModule, deep}
 use Rattle.typing.specs.Flat.{some-size, struct-some}
@@ -118,8 +117,8 @@ pub record FunctionFacts (m : Module) (F : Function) : Type 0 where
   pub targetSize : (a : ℕ) (T : Tree variable) (r : Variable) → F .registerType a ≡ ptr T r → (0 < size m T) × (size m T ≤ sizeLimit)
   pub regionSize : (i : ℕ) → (0 < size m (F .regionType i)) × (size m (F .regionType i) ≤ sizeLimit)
   -- the code
-  pub typed : (i : ℕ) → i < F .length → Typed m F (F .code i)
-  pub goesOn : (i : ℕ) → i < F .length → GoesOn (F .code i) i (F .length)
+  pub typed : (i : ℕ) → i < F .codeLength → Typed m F (F .code i)
+  pub goesOn : (i : ℕ) → i < F .codeLength → GoesOn (F .code i) i (F .codeLength)
 
 pub record ModuleFacts (m : Module) : Type 0 where
   pub some : 0 < m .functions
@@ -155,13 +154,13 @@ module _ (m : Module) (t : WellTyped m) (d : DeepModule m) where
         targetSize = λ a T r q. sized (deep-target (subst (Deep m) q (e .registerType a)));
         regionSize = λ i. sized (e .regionType i);
         typed = λ i l. t .typed g i h l;
-        goesOn = λ i l. goes i l (ℕ-discrete i (F .length - 1));
+        goesOn = λ i l. goes i l (ℕ-discrete i (F .codeLength - 1));
       }
     where
-      goes : (i : ℕ) → i < m .function g .length → Dec (i ≡ m .function g .length - 1) → GoesOn (m .function g .code i) i (m .function g .length)
-      goes i l (yes q) = goes-last (m .function g .code i) i (m .function g .length)
+      goes : (i : ℕ) → i < m .function g .codeLength → Dec (i ≡ m .function g .codeLength - 1) → GoesOn (m .function g .code i) i (m .function g .codeLength)
+      goes i l (yes q) = goes-last (m .function g .code i) i (m .function g .codeLength)
           (subst (λ (j : ℕ). Last (m .function g .code j)) (sym q) (t .lasts g h))
-      goes i l (no q) = goes-before (m .function g .code i) i (m .function g .length) (omega arith)
+      goes i l (no q) = goes-before (m .function g .code i) i (m .function g .codeLength) (omega arith)
 
   pub module-facts : ModuleFacts m
   module-facts = record {

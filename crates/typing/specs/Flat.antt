@@ -9,7 +9,7 @@ use native.Mathlib.Omega.{arith}
 use lib.Dec.{leb}
 use lib.ListN.{length, getD, length-append}
 use Rattle.rules.specs.Limits.{sizeLimit}
-use Rattle.rules.specs.Decide.{Each, more}
+use Rattle.words.specs.Decide.{Each, more}
 use Rattle.rules.specs.Types.{RegionKind, variable, Tree, int, ptr, arr, struct}
 use Rattle.rules.specs.Module.{Module}
 use Rattle.rules.specs.Flat.{Layout, none, empty, packed, beside, copiesOf, copies, subLayout, flatWith, fieldsFrom, fieldsWith, layouts, flat, structFlat, size}

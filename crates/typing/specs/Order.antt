@@ -10,7 +10,7 @@ use native.Mathlib.Omega.{arith}
 use lib.Dec.{eqb}
 use borrow.Author.Tests.{eq-eqb, ne-eqb}
 use Rattle.words.specs.Bytes.{Bytes}
-use Rattle.rules.specs.Decide.{does-true}
+use Rattle.words.specs.Decide.{does-true}
 use Rattle.rules.specs.File.{blocks, placeRight, checkRight, recordOf, instructionsOf, blockTest}
 use Rattle.rules.specs.Records.{recordTest}
 use Rattle.rules.specs.Decode.{codeAt, codePlaces, structStart, functionOf, moduleOf, startOf, instructionAt}
@@ -36,24 +36,24 @@ Earlier m q n p = (row m < row n) ⊎ ((row m ≡ row n) × (stepIn m q < stepIn
 
 -- ---- places ascend
 
-length-is : (f : Bytes) (g : ℕ) → moduleOf f .function g .length ≡ instructionsOf (recordOf f (startOf f g))
+length-is : (f : Bytes) (g : ℕ) → moduleOf f .function g .codeLength ≡ instructionsOf (recordOf f (startOf f g))
 unfolding moduleOf functionOf startOf
 length-is f g = refl
 
-at-skip : (f : Bytes) (g i : ℕ) → i < moduleOf f .function g .length → instructionAt f g i ≡ skip f (codeAt f (startOf f g)) i
+at-skip : (f : Bytes) (g i : ℕ) → i < moduleOf f .function g .codeLength → instructionAt f g i ≡ skip f (codeAt f (startOf f g)) i
 unfolding instructionAt codePlaces
 at-skip f g i h = place-at f (codeAt f (startOf f g)) (instructionsOf (recordOf f (startOf f g))) i (omega (arith, length-is f g))
 
 -- an instruction stands between its function's record 7 and its end
-pub instruction-from : (f : Bytes) (g i : ℕ) → i < moduleOf f .function g .length → startOf f g < instructionAt f g i
+pub instruction-from : (f : Bytes) (g i : ℕ) → i < moduleOf f .function g .codeLength → startOf f g < instructionAt f g i
 instruction-from f g i h = omega (arith, at-skip f g i h, code-from f (startOf f g), skip-from f (codeAt f (startOf f g)) i)
 
-pub instruction-below : (f : Bytes) (g i : ℕ) → i < moduleOf f .function g .length → instructionAt f g i < endOf f (startOf f g)
+pub instruction-below : (f : Bytes) (g i : ℕ) → i < moduleOf f .function g .codeLength → instructionAt f g i < endOf f (startOf f g)
 instruction-below f g i h =
     let l : i < instructionsOf (recordOf f (startOf f g)) = omega (arith, length-is f g) in
     omega (arith, at-skip f g i h, skip-less f (codeAt f (startOf f g)) i (instructionsOf (recordOf f (startOf f g))) l)
 
-pub instruction-less : (f : Bytes) (g i j : ℕ) → i < j → j < moduleOf f .function g .length → instructionAt f g i < instructionAt f g j
+pub instruction-less : (f : Bytes) (g i j : ℕ) → i < j → j < moduleOf f .function g .codeLength → instructionAt f g i < instructionAt f g j
 instruction-less f g i j h l = omega (arith, at-skip f g i (omega arith), at-skip f g j l, skip-less f (codeAt f (startOf f g)) i j h)
 
 module _ (f : Bytes) (ok : Fits f) where
@@ -73,7 +73,7 @@ module _ (f : Bytes) (ok : Fits f) where
   pub start-less : (g h : ℕ) → g < h → h < moduleOf f .functions → startOf f g < startOf f h
   start-less g h l k = omega (arith, end-from f (startOf f g), start-behind g h l k)
 
-  pub instruction-across : (g h i j : ℕ) → g < h → h < moduleOf f .functions → i < moduleOf f .function g .length → j < moduleOf f .function h .length
+  pub instruction-across : (g h i j : ℕ) → g < h → h < moduleOf f .functions → i < moduleOf f .function g .codeLength → j < moduleOf f .function h .codeLength
       → instructionAt f g i < instructionAt f h j
   instruction-across g h i j l k a b = omega (arith, instruction-below f g i a, start-behind g h l k, instruction-from f h j b)
 
@@ -86,7 +86,7 @@ module _ (f : Bytes) (ok : Fits f) where
       go (no z) (yes e) = let s : startOf f g ≡ startOf f h = ap (startOf f) e in absurd (omega arith)
       go (no z) (no e) = absurd (omega (arith, start-less h g (omega arith) k))
 
-  instruction-order : (g h i j : ℕ) → g < moduleOf f .functions → i < moduleOf f .function g .length → j < moduleOf f .function h .length
+  instruction-order : (g h i j : ℕ) → g < moduleOf f .functions → i < moduleOf f .function g .codeLength → j < moduleOf f .function h .codeLength
       → instructionAt f g i < instructionAt f h j → (g < h) ⊎ ((g ≡ h) × (i < j))
   instruction-order g h i j k a b l = go (decLt g h) (ℕ-discrete g h) (decLt i j)
     where
@@ -116,12 +116,12 @@ module _ (f : Bytes) where
   BadFunction q = (g : ℕ) × ((g < moduleOf f .functions) × ((startOf f g ≡ q) × ¬ (FunctionOk (moduleOf f .function g) × (g ≡ 0 → EntryOk (moduleOf f .function g)))))
 
   abbrev BadInstruction : ℕ → Type 0
-  BadInstruction q = (g : ℕ) × ((i : ℕ) × ((g < moduleOf f .functions) × ((i < moduleOf f .function g .length) × ((instructionAt f g i ≡ q)
+  BadInstruction q = (g : ℕ) × ((i : ℕ) × ((g < moduleOf f .functions) × ((i < moduleOf f .function g .codeLength) × ((instructionAt f g i ≡ q)
       × ¬ Typed (moduleOf f) (moduleOf f .function g) (moduleOf f .function g .code i)))))
 
   abbrev BadLast : ℕ → Type 0
-  BadLast q = (g : ℕ) × ((g < moduleOf f .functions) × ((instructionAt f g (moduleOf f .function g .length - 1) ≡ q)
-      × ¬ Last (moduleOf f .function g .code (moduleOf f .function g .length - 1))))
+  BadLast q = (g : ℕ) × ((g < moduleOf f .functions) × ((instructionAt f g (moduleOf f .function g .codeLength - 1) ≡ q)
+      × ¬ Last (moduleOf f .function g .code (moduleOf f .function g .codeLength - 1))))
 
   abbrev Meaning : ℕ → ℕ → Type 0
   Meaning zero q = ⊥
@@ -255,7 +255,7 @@ module _ (f : Bytes) where
       go (inr z) = let r = late 6 (startOf f (h .j)) (omega arith) b (z .0) (z .1) in six (r .0) (r .1)
   none-before n p (instruction a h) {m} {q} b l = go (earlier-at m q (h .fails .number) (h .fails .place) l)
     where
-      typed : (g i : ℕ) → g < moduleOf f .functions → i < moduleOf f .function g .length → (g < h .i) ⊎ ((g ≡ h .i) × (i < h .fails .j))
+      typed : (g i : ℕ) → g < moduleOf f .functions → i < moduleOf f .function g .codeLength → (g < h .i) ⊎ ((g ≡ h .i) × (i < h .fails .j))
           → instructionTest (moduleOf f) (moduleOf f .function g) i ≡ true
       typed g i k z (inl o) = unfold instructionStage in h .before g (omega arith) o i z
       typed g i k z (inr o) = subst (λ (n : ℕ). instructionTest (moduleOf f) (moduleOf f .function n) i ≡ true) (sym (o .0)) (unfold instructionStage in h .fails .before i (o .1))
@@ -272,20 +272,20 @@ module _ (f : Bytes) where
       go (inr z) = let r = late 7 (instructionAt f (h .i) (h .fails .j)) (omega arith) b (z .0) (z .1) in seven (r .0) (r .1)
   none-before n p (last a h) {m} {q} b l = go (earlier-at m q (h .number) (h .place) l)
     where
-      some-last : (g : ℕ) → g < moduleOf f .functions → moduleOf f .function g .length - 1 < moduleOf f .function g .length
+      some-last : (g : ℕ) → g < moduleOf f .functions → moduleOf f .function g .codeLength - 1 < moduleOf f .function g .codeLength
       some-last g k = omega (arith, module-ranges f (a 4 (omega arith)) g k .some)
 
-      eight : BadLast f q → q < instructionAt f (h .j) (moduleOf f .function (h .j) .length - 1) → ⊥
-      eight k z = after-order (instruction-order f (a 4 (omega arith)) (k .0) (h .j) (moduleOf f .function (k .0) .length - 1)
-          (moduleOf f .function (h .j) .length - 1) (k .1 .0) (some-last (k .0) (k .1 .0)) (some-last (h .j) (h .inside)) (omega (arith, k .1 .1 .0, z)))
+      eight : BadLast f q → q < instructionAt f (h .j) (moduleOf f .function (h .j) .codeLength - 1) → ⊥
+      eight k z = after-order (instruction-order f (a 4 (omega arith)) (k .0) (h .j) (moduleOf f .function (k .0) .codeLength - 1)
+          (moduleOf f .function (h .j) .codeLength - 1) (k .1 .0) (some-last (k .0) (k .1 .0)) (some-last (h .j) (h .inside)) (omega (arith, k .1 .1 .0, z)))
         where
-          after-order : (k .0 < h .j) ⊎ ((k .0 ≡ h .j) × (moduleOf f .function (k .0) .length - 1 < moduleOf f .function (h .j) .length - 1)) → ⊥
-          after-order (inl o) = k .1 .1 .1 (does-true (decLast (moduleOf f .function (k .0) .code (moduleOf f .function (k .0) .length - 1))) (unfold lastTest in h .before (k .0) o))
-          after-order (inr o) = let e : moduleOf f .function (k .0) .length ≡ moduleOf f .function (h .j) .length = ap (λ (g : ℕ). moduleOf f .function g .length) (o .0) in omega (arith, o .1)
+          after-order : (k .0 < h .j) ⊎ ((k .0 ≡ h .j) × (moduleOf f .function (k .0) .codeLength - 1 < moduleOf f .function (h .j) .codeLength - 1)) → ⊥
+          after-order (inl o) = k .1 .1 .1 (does-true (decLast (moduleOf f .function (k .0) .code (moduleOf f .function (k .0) .codeLength - 1))) (unfold lastTest in h .before (k .0) o))
+          after-order (inr o) = let e : moduleOf f .function (k .0) .codeLength ≡ moduleOf f .function (h .j) .codeLength = ap (λ (g : ℕ). moduleOf f .function g .codeLength) (o .0) in omega (arith, o .1)
 
-      go : Earlier m q 8 (instructionAt f (h .j) (moduleOf f .function (h .j) .length - 1)) → ⊥
+      go : Earlier m q 8 (instructionAt f (h .j) (moduleOf f .function (h .j) .codeLength - 1)) → ⊥
       go (inl z) = lower a b z (λ e. omega arith)
-      go (inr z) = let r = late 8 (instructionAt f (h .j) (moduleOf f .function (h .j) .length - 1)) (omega arith) b (z .0) (z .1) in eight (r .0) (r .1)
+      go (inr z) = let r = late 8 (instructionAt f (h .j) (moduleOf f .function (h .j) .codeLength - 1)) (omega arith) b (z .0) (z .1) in eight (r .0) (r .1)
 
 -- a refusal is the first: no rule that the file breaks comes before it
 pub first-broken : (f : Bytes) (n p m q : ℕ) → verdictOf f ≡ Refused n p → Broken f m q → Earlier m q n p → ⊥

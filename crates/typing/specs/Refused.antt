@@ -8,15 +8,14 @@ use native.Mathlib.Decide.{ℕ-discrete}
 use native.Mathlib.Omega.{arith}
 use borrow.Author.Tests.{eq-eqb, ne-eqb}
 use Rattle.words.specs.Bytes.{Bytes, listOf}
-use Rattle.rules.specs.Decide.{does-false, does-true, decBoth, decImp}
+use Rattle.words.specs.Decide.{does-false, does-true, decBoth, decImp}
 use Rattle.rules.specs.Stages.{verdict}
 use Rattle.rules.specs.File.{lengthStage, blockStage, blockTest}
 use Rattle.rules.specs.Records.{recordStage}
 use Rattle.rules.specs.Decode.{moduleOf, startOf}
 use Rattle.rules.specs.Decision.{decTyped}
 use Rattle.rules.specs.WellTyped.{FunctionOk, EntryOk, decTerm, decStruct, decFunction, decEntry, decLast}
-use Rattle.rules.specs.Verdict.{Broken, termTest, structTest, functionTest, instructionTest, instructionStage, termStage, structStage, functionStage, lastStage, lastTest, moduleStages, acceptedAs, moduleRules, recordRules, verdictOf}
-use Rattle.rules.specs.Claim.{IsAccepted}
+use Rattle.rules.specs.Verdict.{Broken, termTest, structTest, functionTest, instructionTest, instructionStage, termStage, structStage, functionStage, lastStage, lastTest, moduleStages, acceptedAs, moduleRules, recordRules, verdictOf, IsAccepted}
 use Rattle.rules.specs.declared.Verdict.the-variants.{Refused}
 use Rattle.typing.specs.Stages.{Passes, AllPass, pass-append, pass-each, verdict-append, Fails, FirstIn, here, later, first-in, in-append, FirstOf, in-list}
 use Rattle.typing.specs.Accepted.{stages, no-failure, even-test, odd-test}
@@ -152,7 +151,7 @@ module _ (f : Bytes) (n p : ℕ) where
       at-place (k .number) (k .place) (Broken.instruction (r .i) (k .j) (omega (arith, r .below)) (k .inside)
       (does-false (decTyped (moduleOf f) (moduleOf f .function (r .i)) (moduleOf f .function (r .i) .code (k .j))) (k .fails)))
   broken-there (last a h) = at-place (h .number) (h .place) (Broken.last (h .j) (h .inside)
-      (does-false (decLast (moduleOf f .function (h .j) .code (moduleOf f .function (h .j) .length - 1))) (h .fails)))
+      (does-false (decLast (moduleOf f .function (h .j) .code (moduleOf f .function (h .j) .codeLength - 1))) (h .fails)))
 
   -- a refusal's rule is broken at its place
   pub refused : verdictOf f ≡ Refused n p → Broken f n p
@@ -177,7 +176,7 @@ not-lower f k a (Broken.function g l e) b h = e (function-test f g (a 6 h g l) .
 not-lower f k a (Broken.entry l e) b h = e (function-test f 0 (a 6 h 0 l) .1 refl)
 not-lower f k a (Broken.instruction g i l j e) b h =
     e (does-true (decTyped (moduleOf f) (moduleOf f .function g) (moduleOf f .function g .code i)) (a 7 h g l i j))
-not-lower f k a (Broken.last g l e) b h = e (does-true (decLast (moduleOf f .function g .code (moduleOf f .function g .length - 1))) (a 8 h g l))
+not-lower f k a (Broken.last g l e) b h = e (does-true (decLast (moduleOf f .function g .code (moduleOf f .function g .codeLength - 1))) (a 8 h g l))
 
 pub broken-number : {f : Bytes} {m q : ℕ} → Broken f m q → (1 ≤ m) × (m ≤ 8)
 broken-number (Broken.fileLength e) = (omega arith, omega arith)

@@ -1,7 +1,7 @@
 -- What a conjunction of tests says of its parts, and what a test that carries its meaning says. Assumes nothing.
 use mathlib.Core.Path.{_≡_, refl}
 use mathlib.Core.Bool.{Bool, true, false, _&&_, false≢true}
-use Rattle.rules.specs.Decide.{does}
+use Rattle.words.specs.Decide.{does}
 
 pub left : (a b : Bool) → a && b ≡ true → a ≡ true
 left true b e = refl

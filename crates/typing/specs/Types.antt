@@ -12,7 +12,7 @@ use lib.ListN.{length, getD, length-append}
 use borrow.Author.Tests.{eqb-true, leb-true}
 use Rattle.words.specs.Bytes.{Bytes, listFrom}
 use Rattle.rules.specs.Limits.{sizeLimit}
-use Rattle.rules.specs.Decide.{Each, none, more}
+use Rattle.words.specs.Decide.{Each, none, more}
 use Rattle.rules.specs.File.{recordOf, entryOf, kindInteger, kindPointer, kindArray}
 use Rattle.rules.specs.Types.{variable, Variable, region, Tree, int, ptr, arr, struct, Primitive, width}
 use Rattle.rules.specs.Module.{Module, Function}
@@ -20,8 +20,7 @@ use Rattle.rules.specs.Flat.{flat, flatWith}
 use Rattle.rules.specs.Walk.{whole}
 use Rattle.rules.specs.Decode.{noTree, regionBytes, treeOf, treesOf, fieldsOf, structStart, functionOf, moduleOf}
 use Rattle.rules.specs.WellTyped.{TermOk}
-use Rattle.rules.specs.Verdict.{verdictOf}
-use Rattle.rules.specs.Claim.{IsAccepted}
+use Rattle.rules.specs.Verdict.{verdictOf, IsAccepted}
 use Rattle.rules.specs.declared.Record.{Record}
 use Rattle.typing.specs.Tests.{left, right}
 use Rattle.typing.specs.Lists.{getD-left, getD-last, getD-past, length-listFrom}

@@ -1,12 +1,12 @@
 -- Laws of a file's records: past the file they are zero. Assumes nothing.
 use mathlib.Core.Path.{_≡_, refl}
-use Prim.Native.Nat.{ℕ, _+_, _*_, _/_, _%_, _<_, _≤_}
+use Prim.Native.Nat.{ℕ, zero, suc, _+_, _*_, _/_, _%_, _<_, _≤_}
 use native.Mathlib.Omega.{arith}
 use lib.ListN.{length}
 use Rattle.words.specs.Bytes.{Bytes, AllBytes}
 use Rattle.words.specs.ByteLaws.{byte-past, number-past}
 use Rattle.rules.specs.Limits.{blockBytes, blockRecords, recordBytes}
-use Rattle.rules.specs.File.{blocks, recordsIn, recordStart, recordOf}
+use Rattle.rules.specs.File.{blocks, recordsIn, recordStart, recordOf, entryOf}
 use Rattle.rules.specs.declared.Record.{Record}
 
 abbrev pub noRecord : Record
@@ -33,3 +33,13 @@ record-past f r h =
 pub byte-of : (f : Bytes) (r : ℕ) → AllBytes f → recordOf f r .b < 256
 unfolding recordOf
 byte-of f r all = all (recordStart r + 2)
+
+-- from entry 6 on, the last byte
+pub entry-last : (x : Record) (i : ℕ) → 6 ≤ i → x .d / 16777216 ≡ entryOf x i
+entry-last x zero h = absurd (omega arith)
+entry-last x (suc zero) h = absurd (omega arith)
+entry-last x (suc (suc zero)) h = absurd (omega arith)
+entry-last x (suc (suc (suc zero))) h = absurd (omega arith)
+entry-last x (suc (suc (suc (suc zero)))) h = absurd (omega arith)
+entry-last x (suc (suc (suc (suc (suc zero))))) h = absurd (omega arith)
+entry-last x (suc (suc (suc (suc (suc (suc i)))))) h = refl

@@ -4,20 +4,25 @@ use mathlib.Core.Path.{_≡_, refl, sym, ap, ap₂, _∙_}
 use mathlib.Core.Bool.{Bool, true, false, cond, _&&_}
 use mathlib.Core.Logic.{_⊎_, inl, inr, ⊎-elim}
 use mathlib.Core.List.{List, [], _∷_, _++_}
-use Prim.Native.Nat.{ℕ, zero, suc, _+_, _<_, _≤_, _^_}
+use Prim.Native.Nat.{ℕ, zero, suc, _+_, _*_, _%_, _<_, _≤_, _^_}
 use native.Mathlib.Numerals.{add-one}
 use native.Mathlib.Decide.{ℕ-discrete, decLt}
 use native.Mathlib.Omega.{arith}
-use lib.Dec.{ltb}
+use lib.Dec.{ltb, leb, eqb}
 use lib.ListN.{length, getD, set, replicate, length-append, length-set, length-replicate, getD-replicate}
 use lib.Seq.{ext-getD, getD-set-same, getD-set-other}
-use borrow.Author.Tests.{lt-ltb, le-ltb, ltb-true, ltb-false}
+use borrow.Author.Tests.{lt-ltb, le-ltb, ltb-true, ltb-false, leb-true}
 use Rattle.words.specs.Bytes.{Bytes, AllBytes, listOf}
 use Rattle.words.specs.ByteLaws.{length-listOf, getD-listOf}
+use Rattle.words.specs.First.{sumBelow}
+use Rattle.words.specs.FirstLaws.{sumBelow-more}
 use Rattle.words.specs.Choose.{both, not-both, cond-split}
-use Rattle.rules.specs.File.{records, recordOf}
+use Rattle.rules.specs.Limits.{blockBytes, mostBlocks, blockRecords}
+use Rattle.rules.specs.File.{blocks, lengthRight, records, recordOf, instructionsOf}
 use Rattle.rules.specs.Walk.{start, next, Scan, nextScan, scan, whole}
-use Rattle.rules.specs.Decode.{startOf}
+use Rattle.rules.specs.Records.{headOf}
+use Rattle.rules.specs.Decode.{functionOf, moduleOf, startOf}
+use Rattle.rules.specs.Verdict.{instructions}
 use Rattle.rules.specs.declared.Record.{Record}
 use Rattle.rules.specs.declared.Walk.{Walk}
 use Rattle.walk.specs.declared.tables.Tables.{Tables}
@@ -169,3 +174,54 @@ room-at f all r e h = rw e (counts-room (counts f all r) h)
 
 pub callee-at : (f : Bytes) → AllBytes f → (r : ℕ) {w : Walk} → w ≡ scan f r .walk → w .callee < callees
 callee-at f all r e = rw e (counts f all r .callee)
+
+-- ---- that no place of a function wraps
+
+append-below : (ss : List ℕ) (r m : ℕ) → ((g : ℕ) → getD ss g 0 ≤ m) → r ≤ m → (g : ℕ) → getD (ss ++ r ∷ []) g 0 ≤ m
+append-below [] r m h l zero = l
+append-below [] r m h l (suc g) = omega arith
+append-below (x ∷ ss) r m h l zero = h zero
+append-below (x ∷ ss) r m h l (suc g) = append-below ss r m (λ k. h (suc k)) l g
+
+pub starts-below : (f : Bytes) (r g : ℕ) → getD (scan f r .starts) g 0 ≤ r
+unfolding scan nextScan
+starts-below f zero g = omega arith
+starts-below f (suc r) g = by (ltb (scan f r .walk .functions) (next (scan f r .walk) (recordOf f r) r .functions)) (starts-below f r)
+  where
+    by : (b : Bool) → ((k : ℕ) → getD (scan f r .starts) k 0 ≤ r) → getD (cond b (scan f r .starts ++ r ∷ []) (scan f r .starts)) g 0 ≤ suc r
+    by true h = append-below (scan f r .starts) r (suc r) (λ k. omega (arith, h k)) (omega arith) g
+    by false h = omega (arith, h g)
+
+pub start-below : (f : Bytes) (g : ℕ) → startOf f g ≤ records f
+unfolding startOf whole
+start-below f g = starts-below f (records f) g
+
+-- "1 to 64 blocks": a framed file has few records
+pub records-most : (f : Bytes) → lengthRight f ≡ true → records f ≤ blockRecords * mostBlocks
+unfolding records
+records-most f e =
+    let h = both (eqb (length f % blockBytes) 0) (leb 1 (blocks f) && leb (blocks f) mostBlocks) e in
+    let k = leb-true (blocks f) mostBlocks (both (leb 1 (blocks f)) (leb (blocks f) mostBlocks) (h .1) .1) in
+    omega arith
+
+pub start-small : (f : Bytes) → lengthRight f ≡ true → (g : ℕ) → startOf f g ≤ blockRecords * mostBlocks
+start-small f e g = let a = start-below f g in let b = records-most f e in omega arith
+
+-- ---- the instructions of a module
+
+-- those of the first n functions
+unfoldable pub instructionsBelow : Bytes → ℕ → ℕ
+instructionsBelow f n = sumBelow n (λ g. instructionsOf (recordOf f (startOf f g)))
+
+pub instructions-none : (f : Bytes) → 0 ≡ instructionsBelow f 0
+unfolding instructionsBelow sumBelow
+instructions-none f = refl
+
+pub instructions-more : (f : Bytes) (g : ℕ) → instructionsBelow f (g + 1) ≡ instructionsBelow f g + instructionsOf (headOf f (whole f) g)
+unfolding instructionsBelow startOf
+instructions-more f g = sumBelow-more g (λ k. instructionsOf (recordOf f (startOf f k)))
+
+-- "prints terms, names, functions, instructions"
+pub instructions-all : (f : Bytes) → instructionsBelow f (whole f .walk .functions) ≡ instructions (moduleOf f)
+unfolding instructionsBelow instructions moduleOf functionOf startOf
+instructions-all f = refl

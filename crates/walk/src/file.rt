@@ -1,6 +1,7 @@
 // The records of a file, and the numbers in a record. Each function is the definition of the same name in rules' specs/File.antt.
 ghost use mathlib.Core.Path.{_≡_};
-ghost use Rattle.rules.specs.File.{records, recordOf, regionsOf, returnOf, parametersOf, instructionsOf};
+ghost use Prim.Native.Nat.{_<_};
+ghost use Rattle.rules.specs.File.{records, recordOf, regionsOf, returnOf, parametersOf, instructionsOf, entryOf};
 use crate::limits::BLOCK_BYTES;
 use crate::limits::BLOCK_RECORDS;
 use crate::limits::RECORD_BYTES;
@@ -39,6 +40,21 @@ pub fn record_at(f: &[u8], r: usize) -> Record
     }
 }
 
+// Byte i + 1: the entries of kinds 6, 8, 9 and 35. (Behind the last it is the last, as in the definition.)
+pub fn entry_of(x: Record, i: usize) -> usize
+    ensures { λ n. ⌜ n ≡ entryOf x i ⌝ }
+{
+    match i {
+        0 => x.a as usize,
+        1 => x.b as usize,
+        2 => x.c as usize,
+        3 => x.d as usize % 256,
+        4 => x.d as usize / 256 % 256,
+        5 => x.d as usize / 65536 % 256,
+        _ => x.d as usize / 16777216,
+    }
+}
+
 // "7 function: a region parameters, b local regions"
 pub fn regions_of(x: Record) -> usize
     ensures { λ n. ⌜ n ≡ regionsOf x ⌝ }
@@ -62,7 +78,7 @@ pub fn parameters_of(x: Record) -> usize
 
 // "bytes 6-7 the instructions"
 pub fn instructions_of(x: Record) -> usize
-    ensures { λ n. ⌜ n ≡ instructionsOf x ⌝ }
+    ensures { λ n. ⌜ (n ≡ instructionsOf x) × (n < 65536) ⌝ }
 {
     x.d as usize / 65536
 }

@@ -1,11 +1,11 @@
 // What one pass over the records gives: the walk of the whole file, and the record 7 of each function that a call can name.
 ghost use mathlib.Core.Path.{_≡_};
-ghost use Prim.Native.Nat.{_<_};
+ghost use Prim.Native.Nat.{_<_, _≤_};
 ghost use Rattle.rules.specs.Walk.{whole};
 ghost use Rattle.rules.specs.Decode.{startOf};
 ghost use Rattle.rules.specs.Records.{headOf};
 ghost use Rattle.walk.specs.Scan.{callees};
-ghost use Rattle.walk.specs.Tables.{tablesOf, startsOf, noTables};
+ghost use Rattle.walk.specs.Tables.{tablesOf, startsOf, noTables, instructionsBelow};
 use crate::limits::CALLEES;
 use rules::Record;
 use rules::Walk;
@@ -61,4 +61,19 @@ pub fn head_of(f: &[u8], starts: &[usize; CALLEES], g: usize) -> Record
 {
     let r = start_of(f, starts, g);
     crate::file::record_at(f, r)
+}
+
+// The instructions of the first n functions.
+pub fn instructions(f: &[u8], starts: &[usize; CALLEES], n: usize) -> usize
+    requires { ⌜ now starts ≡ startsOf (now f) ⌝ ∗ ⌜ n ≤ callees ⌝ }
+    ensures { λ s. ⌜ s ≡ instructionsBelow (now (f .entry)) n ⌝ }
+{
+    let mut sum = 0;
+    let mut g = 0;
+    while g < n {
+        let x = head_of(f, starts, g);
+        sum = sum + crate::file::instructions_of(x);
+        g = g + 1;
+    }
+    sum
 }

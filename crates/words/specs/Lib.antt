@@ -7,3 +7,4 @@ pub mod First
 pub mod FirstLaws
 pub mod Choose
 pub mod Widths
+pub mod Decide

@@ -1,6 +1,6 @@
 -- `terms::equal` meets its contract: a term under the identity is itself.
 
-use Rattle.rules.specs.Decide.{does}
+use Rattle.words.specs.Decide.{does}
 use Rattle.rules.specs.Types.{variable, Tree, decTree}
 use Rattle.terms.specs.Compare.{term-identity}
 use borrow.Author.Needs.{needs}

@@ -1,6 +1,6 @@
 -- `terms::equal_under` meets its contract: a term under the identity is itself.
 
-use Rattle.rules.specs.Decide.{does}
+use Rattle.words.specs.Decide.{does}
 use Rattle.rules.specs.Decode.{moduleOf}
 use Rattle.rules.specs.Types.{variable, Tree, sub, decTree}
 use Rattle.terms.specs.Compare.{under, term-identity}

@@ -1,0 +1,3 @@
+-- What the code's answers mean, and the laws of the widths.
+pub mod Meaning
+pub mod Laws

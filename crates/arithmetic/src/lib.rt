@@ -1,0 +1,228 @@
+// Kinds 18 to 20 in code: operations on integers of w bytes, w being 1, 2 or 4.
+ghost use mathlib.Core.Path.{_≡_};
+ghost use mathlib.Core.Bool.{Bool};
+ghost use Prim.Native.Nat.{_+_, _-_, _%_, _/_, _*_, _^_, _≤_, _<_};
+ghost use lib.Dec.{ltb, eqb};
+ghost use Rattle.words.specs.Widths.{IsWidth};
+ghost use Rattle.rules.specs.Arithmetic.{value, halt, cut, flag, valueIf, leftBy, rightBy, magnitude, nearestBy, negative, biased, operationOf, operated, signExtended};
+ghost use Rattle.arithmetic.specs.Meaning.{computedOf};
+
+// 256 to the width of an i32, and the lowest i32 that is negative.
+const WORD: u64 = 4294967296;
+
+const NEGATIVE: u32 = 2147483648;
+
+// What an operation gives: a value, or the number of a stop.
+pub enum Number {
+    Is(u32),
+    Stop(u8),
+}
+
+fn wide(x: u32) -> u64
+    ensures { λ r. ⌜ (r ≡ x) × (r < 2 ^ 32) ⌝ }
+{
+    x as u64
+}
+
+// 256 to the width.
+fn range(w: u64) -> u64
+    requires { ⌜ IsWidth w ⌝ }
+    ensures { λ r. ⌜ (r ≡ 256 ^ w) × (0 < r) × (r ≤ 2 ^ 32) ⌝ }
+{
+    if w == 1 {
+        256
+    } else if w == 2 {
+        65536
+    } else {
+        WORD
+    }
+}
+
+// n cut to w bytes.
+pub fn cut_to(n: u64, w: u64) -> u32
+    requires { ⌜ IsWidth w ⌝ }
+    ensures { λ r. ⌜ r ≡ cut w n ⌝ }
+{
+    let m = range(w);
+    (n % m) as u32
+}
+
+// The width in bits.
+fn bits_of(w: u64) -> u64
+    requires { ⌜ IsWidth w ⌝ }
+    ensures { λ r. ⌜ (r ≡ 8 * w) × (r ≤ 32) ⌝ }
+{
+    8 * w
+}
+
+fn flag_of(b: bool) -> Number
+    ensures { λ r. ⌜ computedOf r ≡ value (flag b) ⌝ }
+{
+    if b { Number::Is(1) } else { Number::Is(0) }
+}
+
+// Moved by half the range, so that the signed order becomes the unsigned one.
+fn bias(w: u64, x: u32) -> u64
+    requires { ⌜ IsWidth w ⌝ }
+    ensures { λ r. ⌜ r ≡ biased w x ⌝ }
+{
+    let m = range(w);
+    (wide(x) + m / 2) % m
+}
+
+fn shift_left(w: u64, x: u32, y: u32) -> Number
+    requires { ⌜ IsWidth w ⌝ }
+    ensures { λ r. ⌜ computedOf r ≡ leftBy (ltb y (8 * w)) w x y ⌝ }
+{
+    let n = wide(y);
+    if n < bits_of(w) {
+        Number::Is(cut_to(wide(x) << n, w))
+    } else {
+        Number::Stop(37)
+    }
+}
+
+// Zeros come in from above.
+fn logical_right(x: u32, y: u32) -> u32
+    requires { ⌜ y < 32 ⌝ }
+    ensures { λ r. ⌜ r ≡ x / 2 ^ y ⌝ }
+{
+    x >> y
+}
+
+fn shift_right(w: u64, x: u32, y: u32) -> Number
+    requires { ⌜ IsWidth w ⌝ }
+    ensures { λ r. ⌜ computedOf r ≡ rightBy (ltb y (8 * w)) x y ⌝ }
+{
+    if wide(y) < bits_of(w) {
+        Number::Is(logical_right(x, y))
+    } else {
+        Number::Stop(37)
+    }
+}
+
+// How far an i32 lies from zero.
+fn magnitude_of(x: u32) -> u64
+    ensures { λ r. ⌜ (r ≡ magnitude x) × (r ≤ negative) ⌝ }
+{
+    if x < NEGATIVE {
+        wide(x)
+    } else {
+        WORD - wide(x)
+    }
+}
+
+fn positive(q: u64) -> Number
+    ensures { λ r. ⌜ computedOf r ≡ valueIf (ltb q negative) 36 q ⌝ }
+{
+    if q < (NEGATIVE as u64) {
+        Number::Is(q as u32)
+    } else {
+        Number::Stop(36)
+    }
+}
+
+fn negated(q: u64) -> Number
+    requires { ⌜ q ≤ 256 ^ 4 ⌝ }
+    ensures { λ r. ⌜ computedOf r ≡ value (cut 4 (256 ^ 4 - q)) ⌝ }
+{
+    Number::Is(((WORD - q) % WORD) as u32)
+}
+
+// What is divided by 2q, so that the quotient of p and q comes out to the nearest, halves upwards.
+fn dividend(p: u64, q: u64) -> u64
+    requires { ⌜ (p ≤ negative) × (q ≤ negative) × (0 < q) ⌝ }
+    ensures { λ r. ⌜ r ≡ 2 * p + q ⌝ }
+{
+    2 * p + q
+}
+
+// The quotient of two i32 to the nearest, halves away from zero.
+fn nearest(x: u32, y: u32) -> Number
+    ensures { λ r. ⌜ computedOf r ≡ nearestBy (ltb 0 y) x y ⌝ }
+{
+    if y == 0 {
+        return Number::Stop(36);
+    }
+    let p = magnitude_of(x);
+    let q = magnitude_of(y);
+    let n = dividend(p, q) / (2 * q);
+    if x < NEGATIVE {
+        if y < NEGATIVE {
+            positive(n)
+        } else {
+            negated(n)
+        }
+    } else {
+        if y < NEGATIVE {
+            negated(n)
+        } else {
+            positive(n)
+        }
+    }
+}
+
+fn quotient(x: u32, y: u32) -> Number
+    ensures { λ r. ⌜ computedOf r ≡ valueIf (ltb 0 y) 36 (x / y) ⌝ }
+{
+    if 0 < y {
+        Number::Is(x / y)
+    } else {
+        Number::Stop(36)
+    }
+}
+
+fn remainder(x: u32, y: u32) -> Number
+    ensures { λ r. ⌜ computedOf r ≡ valueIf (ltb 0 y) 36 (x % y) ⌝ }
+{
+    if 0 < y {
+        Number::Is(x % y)
+    } else {
+        Number::Stop(36)
+    }
+}
+
+fn subtract(w: u64, x: u32, y: u32) -> u32
+    requires { ⌜ (IsWidth w) × (y < 256 ^ w) ⌝ }
+    ensures { λ r. ⌜ r ≡ cut w (x + (256 ^ w - y)) ⌝ }
+{
+    let m = range(w);
+    cut_to(wide(x) + (m - wide(y)), w)
+}
+
+// Operation op on two integers of w bytes.
+pub fn compute(op: u32, w: u64, x: u32, y: u32) -> Number
+    requires { ⌜ (IsWidth w) × (y < 256 ^ w) ⌝ }
+    ensures { λ r. ⌜ computedOf r ≡ operated (operationOf op) w x y ⌝ }
+{
+    match op {
+        0 => Number::Is(cut_to(wide(x) + wide(y), w)),
+        1 => Number::Is(subtract(w, x, y)),
+        2 => Number::Is(cut_to(wide(x) * wide(y), w)),
+        3 => Number::Is(x & y),
+        4 => Number::Is(x | y),
+        5 => Number::Is(x ^ y),
+        6 => shift_left(w, x, y),
+        7 => shift_right(w, x, y),
+        8 => quotient(x, y),
+        9 => remainder(x, y),
+        10 => nearest(x, y),
+        11 => flag_of(x == y),
+        12 => flag_of(x < y),
+        13 => flag_of(bias(w, x) < bias(w, y)),
+        _ => Number::Stop(0),
+    }
+}
+
+// x of w bytes with its sign, cut to u bytes.
+pub fn extend(u: u64, w: u64, x: u32) -> u32
+    requires { ⌜ (IsWidth u) × (IsWidth w) ⌝ }
+    ensures { λ r. ⌜ r ≡ signExtended u w x ⌝ }
+{
+    let m = range(w);
+    if 2 * wide(x) < m {
+        cut_to(wide(x), u)
+    } else {
+        cut_to(wide(x) + (WORD - m), u)
+    }
+}

@@ -1,0 +1,28 @@
+-- `frames::close_locals` meets its contract: the set of the frame's local regions, or none.
+use Prim.Native.Nat.{_-_}
+use native.Mathlib.Omega.{arith}
+use Rattle.frames.specs.Regions.{noRegions}
+use Rattle.frames.specs.Left.{closing-plain}
+use borrow.Author.Needs.{needs}
+use Rattle.frames.proofs.close_locals.Statement.{statement}
+use Rattle.frames.proofs.close_locals.Tie as tie
+
+add-locals-requires : tie.Need-add-locals-requires
+add-locals-requires c κs = search needs
+
+close-pages-requires : tie.Need-close-pages-requires
+close-pages-requires c κs = search needs
+
+same-length : tie.Need-same-length
+same-length c = search needs
+
+returns : tie.Need-returns
+unfolding noRegions
+returns c = rw (c .before .before .before .before .before .add-locals .ensures) at (c .before .before .close-pages .ensures)
+
+returns-2 : tie.Need-returns-2
+returns-2 c = closing-plain (c .before .before .args .s .now) (c .before .before .args .k) (c .before .before .args .n) (c .before .before .args .m) (omega arith)
+
+pub close-locals-spec : {M : Type 1} → statement M
+close-locals-spec =
+    tie.close (tie.spec add-locals-requires close-pages-requires same-length returns returns-2)

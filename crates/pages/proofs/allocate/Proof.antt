@@ -1,0 +1,30 @@
+-- `pages::allocate` meets its contract: the answers of the searches decide the definition's tests.
+use Prim.Native.Nat.{_-_}
+use Prim.{tt}
+use Rattle.rules.specs.State.{view, pageOwner, pageMark}
+use Rattle.pages.specs.Search.{chose-place, chose-page, chose-none}
+use borrow.Author.Needs.{needs}
+use Rattle.pages.proofs.allocate.Statement.{statement}
+use Rattle.pages.proofs.allocate.Tie as tie
+
+find-room-requires : tie.Need-find-room-requires
+find-room-requires c κs = search needs
+
+returns : tie.Need-returns
+unfolding view
+returns c = ((c .if1 .taken, c .before .find-room .ensures .inside (c .if1 .taken)), λ size a e. chose-place (pageOwner (c .before .before .before .args .s .now)) (pageMark (c .before .before .before .args .s .now)) (c .before .before .before .args .low) (c .before .before .before .args .free) (c .before .before .before .args .past) (c .before .before .before .args .r .0) size a (c .before .before .before .args .n) e (c .before .find-room .result .0) (c .before .find-room .ensures .page) (c .if1 .taken) (c .before .find-room .result .1) (c .before .find-room .ensures .place (c .if1 .taken)))
+
+unowned-page-requires : tie.Need-unowned-page-requires
+unowned-page-requires c κs = search needs
+
+returns-2 : tie.Need-returns-2
+unfolding view
+returns-2 c = (c .if2 .taken, λ size a e. chose-page (pageOwner (c .before .before .before .before .before .args .s .now)) (pageMark (c .before .before .before .before .before .args .s .now)) (c .before .before .before .before .before .args .low) (c .before .before .before .before .before .args .free) (c .before .before .before .before .before .args .past) (c .before .before .before .before .before .args .r .0) size a (c .before .before .before .before .before .args .n) e (c .before .before .before .find-room .result .0) (c .before .before .before .find-room .ensures .page) (c .before .before .if1 .left) (c .before .unowned-page .result) (c .before .unowned-page .ensures) (c .if2 .taken))
+
+returns-3 : tie.Need-returns-3
+unfolding view
+returns-3 c = (tt, λ size a e. chose-none (pageOwner (c .before .before .before .before .before .args .s .now)) (pageMark (c .before .before .before .before .before .args .s .now)) (c .before .before .before .before .before .args .low) (c .before .before .before .before .before .args .free) (c .before .before .before .before .before .args .past) (c .before .before .before .before .before .args .r .0) size a (c .before .before .before .before .before .args .n) e (c .before .before .before .find-room .result .0) (c .before .before .before .find-room .ensures .page) (c .before .before .if1 .left) (c .before .unowned-page .result) (c .before .unowned-page .ensures) (c .if2 .left))
+
+pub allocate-spec : {M : Type 1} → statement M
+allocate-spec =
+    tie.close (tie.spec find-room-requires returns unowned-page-requires returns-2 returns-3)

@@ -1,0 +1,37 @@
+-- `pages::grant_page` meets its contract: the first two writes leave the marks.
+use mathlib.Core.Path.{_∙_}
+use Prim.Native.Nat.{_+_, _-_}
+use native.Mathlib.Numerals.{add-one}
+use Rattle.pages.specs.Places.{grant-written}
+use borrow.Author.Needs.{needs}
+use Rattle.pages.proofs.grant_page.Statement.{statement}
+use Rattle.pages.proofs.grant_page.Tie as tie
+
+clear-page-requires : tie.Need-clear-page-requires
+clear-page-requires c κs = search needs
+
+add-put-owner : tie.Need-add-put-owner
+add-put-owner c = search needs
+
+put-owner-requires : tie.Need-put-owner-requires
+put-owner-requires c κs = search needs
+
+set-mark-requires : tie.Need-set-mark-requires
+set-mark-requires c κs = search needs
+
+same-length : tie.Need-same-length
+same-length c = search needs
+
+returns : tie.Need-returns
+returns c = rw (← add-one (c .before .before .before .before .before .before .before .before .before .before .before .before .before .before .args .r .0)) ((rw (c .before .before .before .before .before .before .put-owner .ensures, c .before .before .before .before .before .before .before .before .before .before .before .clear-page .ensures) at (c .before .before .set-mark .ensures)) ∙ grant-written (c .before .before .before .before .before .before .before .before .before .before .before .before .before .before .args .s .now) (c .before .before .before .before .before .before .before .before .before .before .before .before .before .before .args .p) (c .before .before .before .before .before .before .before .before .before .before .before .before .before .before .args .r .0 + 1) (c .before .before .before .before .before .before .before .before .before .before .before .before .before .before .pre .1))
+
+pub grant-page-spec : {M : Type 1} → statement M
+grant-page-spec =
+    tie.close
+    (tie.spec
+    clear-page-requires
+    add-put-owner
+    put-owner-requires
+    set-mark-requires
+    same-length
+    returns)

@@ -1,0 +1,58 @@
+-- `pages::lowest_place` meets its contract: the first byte that is not 255 has the lowest unused place.
+use mathlib.Core.Path.{ap}
+use Prim.Native.Nat.{ℕ, _+_, _-_, _*_}
+use Rattle.pages.specs.Places.{place-found, place-past, place-none}
+use borrow.Author.Needs.{needs}
+use Rattle.pages.proofs.lowest_place.Statement.{statement}
+use Rattle.pages.proofs.lowest_place.Tie as tie
+
+open-byte-requires : tie.Need-open-byte-requires
+open-byte-requires c κs = search needs
+
+marks-place-requires : tie.Need-marks-place-requires
+marks-place-requires c κs = search needs
+
+add-at : tie.Need-add-at
+add-at c = search needs
+
+cast-j : tie.Need-cast-j
+cast-j c = search needs
+
+mul-j : tie.Need-mul-j
+mul-j c = search needs
+
+shared-slice-read-lowest-zero : tie.Need-shared-slice-read-lowest-zero
+shared-slice-read-lowest-zero c = search needs
+
+lowest-zero-requires : tie.Need-lowest-zero-requires
+lowest-zero-requires c κs = search needs
+
+add-j : tie.Need-add-j
+add-j c = search needs
+
+returns : tie.Need-returns
+returns c = place-found (c .before .before .before .before .before .before .before .args .s .now) (c .before .before .before .before .before .before .before .args .p) (c .before .before .before .before .before .open-byte .result) (c .before .before .before .before .before .before .before .args .n) (c .before .before .before .before .before .before .before .pre .1) (c .before .before .before .before .before .before .before .pre .2) (c .before .before .before .before .before .open-byte .ensures .0)
+    (λ k. c .before .before .before .before .before .before .shared-slice-known .given k .fits) (c .before .before .before .before .if1 .taken) _ (ap (λ (x : ℕ). 8 * c .before .before .before .before .before .open-byte .result + x) (rw (c .before .before .before .marks-place .ensures) at (c .before .lowest-zero .ensures .0))) (c .if2 .taken)
+
+returns-2 : tie.Need-returns-2
+returns-2 c = place-past (c .before .before .before .before .before .before .before .args .s .now) (c .before .before .before .before .before .before .before .args .p) (c .before .before .before .before .before .open-byte .result) (c .before .before .before .before .before .before .before .args .n) (c .before .before .before .before .before .before .before .pre .1) (c .before .before .before .before .before .before .before .pre .2) (c .before .before .before .before .before .open-byte .ensures .0)
+    (λ k. c .before .before .before .before .before .before .shared-slice-known .given k .fits) (c .before .before .before .before .if1 .taken) _ (ap (λ (x : ℕ). 8 * c .before .before .before .before .before .open-byte .result + x) (rw (c .before .before .before .marks-place .ensures) at (c .before .lowest-zero .ensures .0))) (c .if2 .left)
+
+returns-3 : tie.Need-returns-3
+returns-3 c = place-none (c .before .before .before .args .s .now) (c .before .before .before .args .p) (c .before .open-byte .result) (c .before .before .before .args .n) (c .before .before .before .pre .1) (c .before .before .before .pre .2) (c .before .open-byte .ensures .0) (c .if1 .left)
+
+pub lowest-place-spec : {M : Type 1} → statement M
+lowest-place-spec =
+    tie.close
+    (tie.spec
+    open-byte-requires
+    marks-place-requires
+    add-at
+    cast-j
+    mul-j
+    shared-slice-read-lowest-zero
+    lowest-zero-requires
+    add-j
+    returns
+    returns-2
+    returns-3)

@@ -1,0 +1,182 @@
+// Kinds 27 and 28 in code: the lowest unused place of a page, the lowest page with room or without an owner, and what a new or a freed
+// object writes. The state is trusted: nothing is tested that an accepted module and a tested state guarantee.
+ghost use mathlib.Core.Path.{_≡_};
+ghost use mathlib.Core.List.{[], _∷_};
+ghost use Prim.Native.Nat.{ℕ, suc, _<_, _≤_};
+ghost use lib.ListN.{length};
+ghost use Rattle.rules.specs.Limits.{stateBytes, pages, pageBytes, liveRegions, markBytes};
+ghost use Rattle.rules.specs.State.{view, pageOwner, pageMark, written, putOwner, putMark, clearPage};
+ghost use Rattle.rules.specs.Heap.{placesInPage};
+ghost use Rattle.rules.specs.Step.{unownedPage};
+ghost use Rattle.state.specs.Marks.{lowestZero};
+ghost use Rattle.pages.specs.Search.{lowestPlace, placeFor, Found, allocateFrom};
+ghost use Rattle.pages.specs.Places.{openByte};
+ghost use Rattle.pages.specs.Meaning.{chosenEffect, Within};
+use state::LiveRegion;
+use state::Machine;
+use state::fields::clear_mark;
+use state::fields::clear_page;
+use state::fields::owner;
+use state::fields::put_owner;
+use state::fields::set_mark;
+use state::places::marks_place;
+use words::bit_of;
+use words::wide;
+
+// What a new object takes: a place of a page that its region has, or the first place of a page that it is granted, or nothing (stop 34).
+pub enum Chosen {
+    Place(u32, u32),
+    Page(u32),
+    Nothing,
+}
+
+// A page and a place in it.
+pub struct Spot(pub u32, pub u32);
+
+// ---- places
+
+// How many objects of a size a page holds.
+pub fn places_in_page(size: u32) -> u32
+    requires { ⌜ 0 < size ⌝ }
+    ensures { λ n. ⌜ (n ≡ placesInPage size) × (n ≤ pageBytes) ⌝ }
+{
+    Machine::PAGE_BYTES / size
+}
+
+// The lowest bit of a byte that is 0, or 8.
+fn lowest_zero(b: u8) -> u32
+    ensures { λ i. ⌜ (i ≡ lowestZero b) × (i ≤ 8) ⌝ }
+{
+    let mut i: u32 = 0;
+    while i < 8 {
+        if bit_of(b, i) == 0 {
+            return i;
+        }
+        i += 1;
+    }
+    i
+}
+
+// The first byte of page p's marks that has an unused place, or 32.
+fn open_byte(s: &[u8], p: u32) -> usize
+    requires { ⌜ (length (now s) ≡ stateBytes) × (p < pages) ⌝ }
+    ensures { λ i. ⌜ (i ≡ openByte (now (s .entry)) p) × (i ≤ markBytes) ⌝ }
+{
+    let at = marks_place(p);
+    let mut i: usize = 0;
+    while i < Machine::MARK_BYTES {
+        if s[at + i] != 255 {
+            return i;
+        }
+        i += 1;
+    }
+    i
+}
+
+// The lowest unused place of page p, or n, the number of its places. (A byte of 255 is eight used places.)
+pub fn lowest_place(s: &[u8], p: u32, n: u32) -> u32
+    requires { ⌜ (length (now s) ≡ stateBytes) × (p < pages) × (n ≤ pageBytes) ⌝ }
+    ensures { λ j. ⌜ j ≡ lowestPlace (pageOwner (now (s .entry))) (pageMark (now (s .entry))) n p ⌝ }
+{
+    let i = open_byte(s, p);
+    if i < Machine::MARK_BYTES {
+        let at = marks_place(p) + i;
+        let j = 8 * (i as u32) + lowest_zero(s[at]);
+        if j < n { j } else { n }
+    } else {
+        n
+    }
+}
+
+// ---- pages
+
+// The lowest unused place of page p where it is region r's; else n.
+fn place_for(s: &[u8], p: u32, r: LiveRegion, n: u32) -> u32
+    requires { ⌜ (length (now s) ≡ stateBytes) × (p < pages) × (n ≤ pageBytes) ⌝ }
+    ensures { λ j. ⌜ j ≡ placeFor (pageOwner (now (s .entry))) (pageMark (now (s .entry))) (r .0) n p ⌝ }
+{
+    if wide(owner(s, p)) == wide(r.0) + 1 {
+        lowest_place(s, p, n)
+    } else {
+        n
+    }
+}
+
+// The lowest page from low on, and below past, that is region r's and has an unused place, with its lowest; else past and n.
+pub fn find_room(s: &[u8], low: u32, past: u32, r: LiveRegion, n: u32) -> Spot
+    requires { ⌜ (length (now s) ≡ stateBytes) × (low ≤ past) × (past ≤ pages) × (n ≤ pageBytes) ⌝ }
+    ensures { λ x. ⌜ Found (pageOwner (now (s .entry))) (pageMark (now (s .entry))) low past (r .0) n (x .0) (x .1) ⌝ }
+{
+    let mut p = low;
+    while p < past {
+        let j = place_for(s, p, r, n);
+        if j < n {
+            return Spot(p, j);
+        }
+        p += 1;
+    }
+    Spot(p, n)
+}
+
+// The lowest page from low on, and below past, that nobody owns; else past.
+pub fn unowned_page(s: &[u8], low: u32, past: u32) -> u32
+    requires { ⌜ (length (now s) ≡ stateBytes) × (low ≤ past) × (past ≤ pages) ⌝ }
+    ensures { λ q. ⌜ q ≡ unownedPage (pageOwner (now (s .entry))) (pageMark (now (s .entry))) low past ⌝ }
+{
+    let mut q = low;
+    while q < past {
+        if owner(s, q) == 0 {
+            return q;
+        }
+        q += 1;
+    }
+    q
+}
+
+// What a new object of region r takes, n places to a page. Pages below low have no room for it, pages below free are owned: where that
+// is so, this is rules' `allocate` (allocate-hint); from the first page on it always is (allocate-plain).
+pub fn allocate(s: &[u8], low: u32, free: u32, past: u32, r: LiveRegion, n: u32) -> Chosen
+    requires { ⌜ (length (now s) ≡ stateBytes) × (low ≤ past) × (free ≤ past) × (past ≤ pages) × (n ≤ pageBytes) ⌝ }
+    ensures { λ c. ⌜ Within past n c × ((size a : ℕ) → n ≡ placesInPage size → chosenEffect (r .0) size a c ≡ allocateFrom (view (now (s .entry)) .owner) (view (now (s .entry)) .mark) low free past (r .0) size a) ⌝ }
+{
+    let x = find_room(s, low, past, r, n);
+    let p = x.0;
+    let j = x.1;
+    if p < past {
+        return Chosen::Place(p, j);
+    }
+    let q = unowned_page(s, free, past);
+    if q < past {
+        Chosen::Page(q)
+    } else {
+        Chosen::Nothing
+    }
+}
+
+// ---- writes
+
+// Place j of page p is used now.
+pub fn take_place(s: &mut [u8], p: u32, j: u32)
+    requires { ⌜ (length (now s) ≡ stateBytes) × ((p < pages) × (j < pageBytes)) ⌝ }
+    ensures { λ _. ⌜ now (s .exit) ≡ written (putMark (now (s .entry)) p j 1 ∷ []) (now (s .entry)) ⌝ }
+{
+    set_mark(s, p, j);
+}
+
+// Place j of page p is free now.
+pub fn free_place(s: &mut [u8], p: u32, j: u32)
+    requires { ⌜ (length (now s) ≡ stateBytes) × ((p < pages) × (j < pageBytes)) ⌝ }
+    ensures { λ _. ⌜ now (s .exit) ≡ written (putMark (now (s .entry)) p j 0 ∷ []) (now (s .entry)) ⌝ }
+{
+    clear_mark(s, p, j);
+}
+
+// Page p is granted to region r, zeroed whole, its first place used.
+pub fn grant_page(s: &mut [u8], p: u32, r: LiveRegion)
+    requires { ⌜ (length (now s) ≡ stateBytes) × (p < pages) × (r .0 < liveRegions) ⌝ }
+    ensures { λ _. ⌜ now (s .exit) ≡ written (clearPage p ∷ putOwner p (suc (r .0)) ∷ putMark (now (s .entry)) p 0 1 ∷ []) (now (s .entry)) ⌝ }
+{
+    clear_page(s, p);
+    put_owner(s, p, r.0 + 1);
+    set_mark(s, p, 0);
+}

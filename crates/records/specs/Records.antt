@@ -1,0 +1,50 @@
+-- How the loop over the records shows its result: a record fails, the file ends too soon, or neither; and the test of a record by the
+-- walk's phase. Assumes nothing.
+use mathlib.Core.Path.{_≡_, refl, sym, ap, _∙_}
+use mathlib.Core.Bool.{Bool, true, false}
+use Prim.Native.Nat.{ℕ, _+_, _<_, _≤_}
+use native.Mathlib.Omega.{arith}
+use borrow.Author.Count.{below-more}
+use Rattle.words.specs.Bytes.{Bytes}
+use Rattle.words.specs.First.{first}
+use Rattle.words.specs.FirstLaws.{first-is}
+use Rattle.rules.specs.File.{records, recordOf}
+use Rattle.rules.specs.Walk.{Scan, scan, whole}
+use Rattle.rules.specs.Records.{fitsIn, fits, endFits, recordTest}
+use Rattle.rules.specs.declared.Record.{Record}
+use Rattle.rules.specs.declared.Walk.{Walk}
+use Rattle.rules.specs.declared.Phase.{Phase}
+use Rattle.typing.specs.Walk.{test-at, test-end}
+
+module _ (f : Bytes) {n : ℕ} (hn : n ≡ records f) {r : ℕ} {w : Walk} (hw : w ≡ scan f r .walk) where
+  -- record r, and its test
+  module _ {x : Record} (hx : x ≡ recordOf f r) {b : Bool} (hb : b ≡ fits f (whole f) w x) (h : r < n) where
+    pub record-test : recordTest f r ≡ b
+    record-test = test-at f r (omega arith) ∙ sym (rw (hw, hx) at hb)
+
+  module _ (before : (j : ℕ) → j < r → recordTest f j ≡ true) where
+    pub record-fails : r < n → recordTest f r ≡ false → r ≡ first (records f + 1) (recordTest f)
+    record-fails h e = sym (first-is (records f + 1) (recordTest f) r (omega arith) before (λ k. e))
+
+    module _ (hr : r ≡ n) where
+      there : scan f (records f) .walk ≡ w
+      there = rw (← hn, ← hr) (sym hw)
+
+      at-end : recordTest f (records f) ≡ endFits (w .phase)
+      at-end = test-end f ∙ ap (λ (v : Walk). endFits (v .phase)) there
+
+      passed : (j : ℕ) → j < records f → recordTest f j ≡ true
+      passed j h = before j (omega arith)
+
+      pub ends-short : endFits (w .phase) ≡ false → n ≡ first (records f + 1) (recordTest f)
+      ends-short e = hn ∙ sym (first-is (records f + 1) (recordTest f) (records f) (omega arith) passed (λ k. at-end ∙ e))
+
+      pub none-fails : endFits (w .phase) ≡ true → n + 1 ≡ first (records f + 1) (recordTest f)
+      none-fails e =
+          ap (λ (k : ℕ). k + 1) hn
+          ∙ sym (first-is (records f + 1) (recordTest f) (records f + 1) (omega arith) (below-more _ (records f) passed (at-end ∙ e)) (λ k. absurd (omega arith)))
+
+-- by the walk's phase
+pub fits-in : (f : Bytes) (t : Scan) (w : Walk) (x : Record) {p : Phase} → w .phase ≡ p → fits f t w x ≡ fitsIn p f t w x
+unfolding fits
+fits-in f t w x e = ap (λ (q : Phase). fitsIn q f t w x) e

@@ -1,0 +1,98 @@
+//! Compares the proved library's checker with this one's: `compare_check [SEED [COUNT]]`, on COUNT
+//! random modules, every second of them damaged, and on the `check` lines of the corpus files that
+//! are named by RCM_CORPUS (a folder; by default tests/corpus). Prints how often each verdict occurs.
+//! Built with the feature `librcm` and the folder of `librcm.a` in RCM_LIB_DIR.
+
+use reference::corpus::case_files;
+use reference::damage::damage;
+use reference::generator::draw;
+use reference::host::{self, Answer};
+use reference::prng::Prng;
+use std::collections::BTreeMap;
+use std::path::PathBuf;
+use std::process::ExitCode;
+use std::time::{Duration, Instant};
+
+extern "C" {
+    fn rcm_check(file: *const u8, file_len: usize, answer: *mut u64);
+}
+
+/// An answer that no call gives, so that entries left unwritten show.
+const UNWRITTEN: Answer = [u64::MAX; 4];
+
+fn library_check(file: &[u8]) -> Answer {
+    let mut answer = UNWRITTEN;
+    // The slice is valid for its length, not null and apart from the answer.
+    unsafe { rcm_check(file.as_ptr(), file.len(), answer.as_mut_ptr()) };
+    answer
+}
+
+fn verdict(answer: Answer) -> String {
+    match answer[0] {
+        host::REFUSED => format!("refused {}", answer[1]),
+        _ => "accepted".to_string(),
+    }
+}
+
+/// The modules of all corpus files in a folder, with the name of each case.
+fn corpus_modules(folder: &PathBuf) -> Vec<(String, Vec<u8>)> {
+    let mut found = Vec::new();
+    for path in case_files(folder) {
+        let text = std::fs::read_to_string(&path).expect("a corpus file can be read");
+        let mut name = String::new();
+        for line in text.lines() {
+            if let Some(rest) = line.strip_prefix("case ") {
+                name = rest.to_string();
+            } else if let Some(hex) = line.strip_prefix("module ") {
+                let digits = if hex == "-" { "" } else { hex };
+                let byte = |i| u8::from_str_radix(&digits[i..i + 2], 16).expect("hex");
+                found.push((name.clone(), (0..digits.len()).step_by(2).map(byte).collect()));
+            }
+        }
+    }
+    found
+}
+
+fn main() -> ExitCode {
+    let mut numbers = std::env::args().skip(1).map(|word| word.parse().expect("a number"));
+    let seed = numbers.next().unwrap_or(1);
+    let count: u64 = numbers.next().unwrap_or(20_000);
+    let folder = std::env::var_os("RCM_CORPUS").map_or("tests/corpus".into(), PathBuf::from);
+    let mut counts: BTreeMap<String, u64> = BTreeMap::new();
+    let mut differences = 0;
+    let mut times = [Duration::ZERO; 2];
+    let mut compare = |name: &str, file: &[u8]| {
+        let start = Instant::now();
+        let here = host::check(file);
+        times[0] += start.elapsed();
+        let start = Instant::now();
+        let other = library_check(file);
+        times[1] += start.elapsed();
+        if here != other {
+            differences += 1;
+            println!("{name}: here {here:?}, library {other:?}");
+        }
+        *counts.entry(verdict(here)).or_default() += 1;
+    };
+    let corpus = corpus_modules(&folder);
+    for (name, file) in &corpus {
+        compare(name, file);
+    }
+    for number in 0..count {
+        let mut rng = Prng::new(seed.wrapping_mul(1_000_003).wrapping_add(number));
+        let sample = draw(&mut rng);
+        let damaged = number % 2 == 1;
+        let file = if damaged { damage(&mut rng, sample.records.clone()) } else { sample.file() };
+        compare(&format!("seed {seed} module {number}"), &file);
+    }
+    for (verdict, times) in &counts {
+        println!("{verdict}: {times}");
+    }
+    println!("{} corpus modules, {count} random ones, {differences} differences", corpus.len());
+    println!("checking took {:?} here, {:?} in the library", times[0], times[1]);
+    if differences == 0 {
+        ExitCode::SUCCESS
+    } else {
+        ExitCode::FAILURE
+    }
+}
