@@ -2,3 +2,4 @@
 pub mod Table
 pub mod TableLaws
 pub mod Positions
+pub mod Runs

@@ -83,5 +83,6 @@ pub record Table (f : Bytes) (n k : ℕ) (tab : List ℕ) : Type 0 where
   pub entries : (p : ℕ) → p ≤ n → entryAt tab p ≡ exactOf (termLayout f k p)
   pub sizes : (p : ℕ) → p ≤ n → termLayout f k p .size ≤ 257
   pub counts : (p : ℕ) → p ≤ n → count (termLayout f k p) ≤ 256
+  pub sized : (p : ℕ) → p ≤ n → 0 < count (termLayout f k p) → termLayout f k p .size ≤ 256
   pub cores : (p : ℕ) → p ≤ n → Core f p (coreAt tab p)
   pub few : (p : ℕ) → p ≤ n → Few (headOf f p)

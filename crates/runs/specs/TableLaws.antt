@@ -26,8 +26,8 @@ use Rattle.terms.specs.declared.Head.{Head}
 use Rattle.terms.specs.declared.Head.the-variants.{Int, Ptr, Arr, Struct}
 use Rattle.terms.specs.Heads.{placeOf, treeAt, headFrom, headOf, grow}
 use Rattle.terms.specs.HeadLaws.{tree-step, head-none, place-le, Fair, fair}
-use Rattle.terms.specs.Extents.{Terms, Counted, cap, extentOf, Small, termExtent, fieldPlace, fieldCount, firsts}
-use Rattle.terms.specs.ExtentLaws.{cap-same, term-int, layout-known, layout-unknown, fields-firsts, module-fields, module-term}
+use Rattle.terms.specs.Extents.{Terms, Counted, cap, extentOf, over, plus, times, Small, termExtent, fieldPlace, fieldCount, firsts, soFar}
+use Rattle.terms.specs.ExtentLaws.{cap-same, plus-over, plus-fits, times-over, times-fits, term-int, term-ptr, term-arr, term-known, term-unknown, struct-all, so-begin, so-more, layout-known, layout-unknown, fields-firsts, module-fields, module-term}
 use Rattle.runs.specs.Table.{termLayout, structLayout, exactOf, InRange, Ranged, pack, unpack, entryAt, coreAt, Core, Few, Filled, Known, Table}
 
 -- ---- no more primitives than bytes
@@ -218,6 +218,44 @@ exact : (f : Bytes) (k p : ℕ) → count (termLayout f k p) ≤ 256 → termExt
 unfolding termExtent termLayout
 exact f k p h = ap (λ (c : ℕ). record { size = flatWith (layouts (moduleOf f) k) (treeAt f p) .size; count = c }) (cap-same (count (flatWith (layouts (moduleOf f) k) (treeAt f p))) h)
 
+-- what passes the limit has no primitives
+module _ (f : Bytes) (bytes : AllBytes f) (n : ℕ) (is : Terms f n) where
+  times-limit : (c : ℕ) (e : Extent) → 256 < times c e .size → times c e ≡ over
+  times-limit c e h = ⊎-elim
+      (λ l. times-over c e l)
+      (λ l. absurd (omega (arith, h, ap (λ (x : Extent). x .size) (times-fits c e l))))
+      (lt-or-le 256 (c * e .size))
+
+  plus-limit : (d e : Extent) → 256 < plus d e .size → plus d e ≡ over
+  plus-limit d e h = ⊎-elim
+      (λ l. plus-over d e l)
+      (λ l. absurd (omega (arith, h, ap (λ (x : Extent). x .size) (plus-fits d e l))))
+      (lt-or-le 256 (d .size + e .size))
+
+  fields-limit : (N i : ℕ) → 256 < soFar f n N i .size → soFar f n N i ≡ over
+  fields-limit N zero h = absurd (omega (arith, h, ap (λ (x : Extent). x .size) (so-begin f n N)))
+  fields-limit N (suc i) h = so-more f n N i ∙ plus-limit (soFar f n N i) (termExtent f N (fieldPlace f n N i)) (subst (λ (x : Extent). 256 < x .size) (so-more f n N i) h)
+
+  head-limit : (k p : ℕ) (x : Head) → headOf f p ≡ x → Fair p x → 256 < termExtent f k p .size → termExtent f k p ≡ over
+  head-limit k p (Int w) e g h = absurd (omega (arith, g, h, ap (λ (x : Extent). x .size) (term-int f k p w e)))
+  head-limit k p (Ptr a r) e g h = absurd (omega (arith, h, ap (λ (x : Extent). x .size) (term-ptr f k p a r e)))
+  head-limit k p (Arr c a) e g h = let z = term-arr f k p c a e in z ∙ times-limit c (termExtent f k a) (subst (λ (x : Extent). 256 < x .size) z h)
+  head-limit k p (Struct N c d) e g h = ⊎-elim
+      (λ l. let z = term-known f k p N c d e l ∙ struct-all f n is N in z ∙ fields-limit N (fieldCount f n N) (subst (λ (x : Extent). 256 < x .size) z h))
+      (λ l. term-unknown f k p N c d e l)
+      (lt-or-le N k)
+
+  limit : (k p : ℕ) → 256 < termExtent f k p .size → termExtent f k p ≡ over
+  limit k p h = head-limit k p (headOf f p) refl (fair f bytes p) h
+
+  has-size : (k p : ℕ) → count (termLayout f k p) ≤ 256 → 0 < count (termLayout f k p) → termLayout f k p .size ≤ 256
+  has-size k p c h =
+      let e = exact f k p c in
+      ⊎-elim
+      (λ l. absurd (omega (arith, h, ap (λ (x : Extent). x .count) (sym e ∙ limit k p (subst (λ (x : Extent). 256 < x .size) (sym e) l)))))
+      (λ l. l)
+      (lt-or-le 256 (termLayout f k p .size))
+
 pub filled-table : (f : Bytes) → AllBytes f → (n k : ℕ) → Counted f n k → Ranged f n → (tab : List ℕ) (t : ℕ) → n ≤ t → Filled f k tab (t + 1)
     → ((p : ℕ) → p ≤ n → termExtent f k p .size ≤ 257) → Table f n k tab
 unfolding termExtent termLayout
@@ -226,6 +264,7 @@ filled-table f bytes n k h range tab t l so small = record {
   entries = λ p m. so .entries p (omega arith) ∙ exact f k p (neat f n range bytes (h .terms) k p m .1);
   sizes = small;
   counts = λ p m. neat f n range bytes (h .terms) k p m .1;
+  sized = λ p m c. has-size f bytes n (h .terms) k p (neat f n range bytes (h .terms) k p m .1) c;
   cores = λ p m. so .cores p (omega arith);
   few = few-args f n range;
 }

@@ -5,16 +5,18 @@ ghost use mathlib.Core.Path.{_≡_};
 ghost use Prim.Native.Nat.{ℕ, _+_, _*_, _/_, _<_, _≤_};
 ghost use lib.ListN.{length};
 ghost use Rattle.words.specs.Decide.{does};
-ghost use Rattle.rules.specs.Types.{variable, live, sub};
-ghost use Rattle.rules.specs.Flat.{flat, count, size, distance, positionAt, decPlaced, decRun, decSame, moved};
+ghost use Rattle.rules.specs.Types.{RegionKind, variable, live, sub};
+ghost use Rattle.rules.specs.Flat.{flat, count, size, distance, positionAt, decPlaced, decRun, decSame, moved, subLayout};
 ghost use Rattle.rules.specs.Decode.{moduleOf};
 ghost use Rattle.layout.specs.Prims.{nth};
 ghost use Rattle.terms.specs.Extents.{Counted, Small};
 ghost use Rattle.terms.specs.Compare.{byteUnder, under};
 ghost use Rattle.runs.specs.Table.{pack, entryAt, coreAt, Core, Ranged, Filled, Known, Table, exactOf, termLayout, structLayout};
-ghost use Rattle.runs.specs.Positions.{Keeps, Agree, argByte, Found};
+ghost use Rattle.runs.specs.Positions.{Keeps, Agree, argByte, placedOf, Found};
+ghost use Rattle.runs.specs.Runs.{Lower, RunAtIs, SameIs, ElementIs, InPageIs, StandsIs};
 use terms::Extent;
 use terms::Head;
+use terms::Live;
 
 // A primitive: its distance in bytes, and the place of its term with the regions put for its variables.
 pub struct Primitive {
@@ -233,4 +235,276 @@ fn struct_prim(
         j += 1;
     }
     Primitive { off, place: 0, to }
+}
+
+// Primitive i of the term at place p.
+fn place_prim(
+    f: &[u8],
+    n: usize,
+    k: usize,
+    p: usize,
+    to: [u8; 8],
+    i: usize,
+    tab: &[u64],
+) -> Primitive
+    requires { ⌜ (Table (now f) n k (now tab)) × (p ≤ n) × (i < count (termLayout (now f) k p)) × (Keeps to) ⌝ }
+    ensures { λ r. ⌜ Found (now (f .entry)) r to 0 (nth (termLayout (now (f .entry)) k p) i) ⌝ }
+{
+    let c = core_in(tab, p);
+    term_prim(f, n, k, c, to, 0, i, tab)
+}
+
+// ---- runs
+
+// Whether x is y, `from` bytes further.
+fn same_prim(f: &[u8], x: Primitive, from: usize, y: Primitive) -> bool
+    ensures { λ r. ⌜ ((j : RegionKind) → r ≡ does (decPlaced (placedOf j (now (f .entry)) x) (moved from (placedOf j (now (f .entry)) y)))) ⌝ }
+{
+    let x_off = x.off;
+    let y_off = y.off;
+    let x_place = x.place;
+    let y_place = y.place;
+    let x_to = x.to;
+    let y_to = y.to;
+    if x_off < from {
+        return false;
+    }
+    (x_off - from == y_off) & terms::same_places(f, x_place, &x_to, y_place, &y_to)
+}
+
+// Whether the `many` primitives of the term at place b under q are those of the term at place a under p, from position d on.
+fn run_places(
+    f: &[u8],
+    n: usize,
+    k: usize,
+    a: usize,
+    p: [u8; 8],
+    d: usize,
+    b: usize,
+    q: [u8; 8],
+    many: usize,
+    tab: &[u64],
+) -> bool
+    requires { ⌜ (Table (now f) n k (now tab)) × (a ≤ n) × (b ≤ n) × (Keeps p) × (Keeps q) × (many ≡ count (termLayout (now f) k b)) × (0 < many) × (d + many ≤ count (termLayout (now f) k a)) ⌝ }
+    ensures { λ r. ⌜ ((j : RegionKind) → r ≡ does (decRun (subLayout (under {k = j} p) (termLayout (now (f .entry)) k a)) d (subLayout (under q) (termLayout (now (f .entry)) k b)))) ⌝ }
+{
+    let first = place_prim(f, n, k, a, p, d, tab);
+    let from = first.off;
+    let mut i = 0;
+    while i < many {
+        let x = place_prim(f, n, k, a, p, d + i, tab);
+        let y = place_prim(f, n, k, b, q, i, tab);
+        if same_prim(f, x, from, y) {
+            i += 1;
+        } else {
+            return false;
+        }
+    }
+    true
+}
+
+// Whether the run of term t under q stands at position d of term u under p (kind 23).
+pub fn run_from(
+    f: &[u8],
+    n: usize,
+    k: usize,
+    u: usize,
+    p: &[u8],
+    d: usize,
+    t: usize,
+    q: &[u8],
+    tab: &[u64],
+) -> bool
+    requires { ⌜ (Table (now f) n k (now tab)) × (length (now p) ≤ 8) × (length (now q) ≤ 8) ⌝ }
+    ensures { λ r. do let m = moduleOf (now (f .entry)) in ⌜ (r ≡ does (decRun (flat m (sub (under {k = variable} (now (p .entry))) (m .term u))) d (flat m (sub (under (now (q .entry))) (m .term t))))) × (r ≡ does (decRun (flat m (sub (under {k = live} (now (p .entry))) (m .term u))) d (flat m (sub (under (now (q .entry))) (m .term t))))) ⌝ }
+{
+    let a = terms::place_of(n, u);
+    let b = terms::place_of(n, t);
+    let e = extent_in(tab, a);
+    let g = extent_in(tab, b);
+    let most = e.count;
+    let many = g.count;
+    if many == 0 {
+        return false;
+    }
+    if most < d {
+        return false;
+    }
+    if most - d < many {
+        return false;
+    }
+    run_places(f, n, k, a, held(p), d, b, held(q), many, tab)
+}
+
+// ---- positions by distance
+
+// The distance of primitive i of the term at place p: the same under every substitution.
+fn place_off(f: &[u8], n: usize, k: usize, p: usize, i: usize, tab: &[u64]) -> usize
+    requires { ⌜ (Table (now f) n k (now tab)) × (p ≤ n) × (i < count (termLayout (now f) k p)) ⌝ }
+    ensures { λ r. ⌜ r ≡ distance (termLayout (now (f .entry)) k p) i ⌝ }
+{
+    let x = place_prim(f, n, k, p, [255, 255, 255, 255, 255, 255, 255, 255], i, tab);
+    x.off
+}
+
+// The first position of the term at place p, of `many` primitives, whose distance is o or more. By halves: distances grow.
+fn lower(f: &[u8], n: usize, k: usize, p: usize, o: usize, many: usize, tab: &[u64]) -> usize
+    requires { ⌜ (Table (now f) n k (now tab)) × (p ≤ n) × (many ≡ count (termLayout (now f) k p)) ⌝ }
+    ensures { λ r. ⌜ Lower (termLayout (now (f .entry)) k p) o r r ⌝ }
+{
+    let mut low = 0;
+    let mut high = many;
+    while low < high {
+        let mid = low + (high - low) / 2;
+        if place_off(f, n, k, p, mid, tab) < o {
+            low = mid + 1;
+        } else {
+            high = mid;
+        }
+    }
+    low
+}
+
+// The position of term t whose distance is o: the number of its primitives where there is none.
+pub fn position_at(f: &[u8], n: usize, k: usize, t: usize, o: usize, tab: &[u64]) -> usize
+    requires { ⌜ Table (now f) n k (now tab) ⌝ }
+    ensures { λ r. do let m = moduleOf (now (f .entry)) in ⌜ r ≡ positionAt (flat m (m .term t)) o ⌝ }
+{
+    let p = terms::place_of(n, t);
+    let e = extent_in(tab, p);
+    let many = e.count;
+    let i = lower(f, n, k, p, o, many, tab);
+    if i < many {
+        if place_off(f, n, k, p, i, tab) == o {
+            return i;
+        }
+        return many;
+    }
+    many
+}
+
+// Kind 23: the distance of position d of term t, 0 where there is none.
+pub fn distance(f: &[u8], n: usize, k: usize, t: usize, d: usize, tab: &[u64]) -> usize
+    requires { ⌜ Table (now f) n k (now tab) ⌝ }
+    ensures { λ r. do let m = moduleOf (now (f .entry)) in ⌜ r ≡ distance (flat m (m .term t)) d ⌝ }
+{
+    let p = terms::place_of(n, t);
+    let e = extent_in(tab, p);
+    if d < e.count {
+        return place_off(f, n, k, p, d, tab);
+    }
+    0
+}
+
+// Whether the run of term t under q stands at byte o of term u under p.
+pub fn run_at(
+    f: &[u8],
+    n: usize,
+    k: usize,
+    u: usize,
+    p: &[u8],
+    o: usize,
+    t: usize,
+    q: &[u8],
+    tab: &[u64],
+) -> bool
+    requires { ⌜ (Table (now f) n k (now tab)) × (length (now p) ≤ 8) × (length (now q) ≤ 8) ⌝ }
+    ensures { λ r. ⌜ RunAtIs (now (f .entry)) u (now (p .entry)) o t (now (q .entry)) r ⌝ }
+{
+    let d = position_at(f, n, k, u, o, tab);
+    run_from(f, n, k, u, p, d, t, q, tab)
+}
+
+// Whether the primitives of term u under p are those of term t under q (kinds 27, 28).
+pub fn same_prims(
+    f: &[u8],
+    n: usize,
+    k: usize,
+    u: usize,
+    p: &[u8],
+    t: usize,
+    q: &[u8],
+    tab: &[u64],
+) -> bool
+    requires { ⌜ (Table (now f) n k (now tab)) × (length (now p) ≤ 8) × (length (now q) ≤ 8) ⌝ }
+    ensures { λ r. ⌜ SameIs (now (f .entry)) u (now (p .entry)) t (now (q .entry)) r ⌝ }
+{
+    let e = extent_in(tab, terms::place_of(n, u));
+    let g = extent_in(tab, terms::place_of(n, t));
+    if e.count != g.count {
+        return false;
+    }
+    run_from(f, n, k, u, p, 0, t, q, tab)
+}
+
+// Kind 24: the size of an element and their number, of an array.
+pub fn element(f: &[u8], n: usize, k: usize, t: usize, tab: &[u64]) -> Extent
+    requires { ⌜ Table (now f) n k (now tab) ⌝ }
+    ensures { λ r. ⌜ ElementIs (now (f .entry)) t r ⌝ }
+{
+    let a = terms::inner(f, n, t);
+    let e = extent_at(n, a, tab, f, k);
+    Extent {
+        size: e.size,
+        count: terms::number(f, n, t),
+    }
+}
+
+// ---- addresses
+
+// Whether the run of term t under q stands at byte x of a page whose objects are of term u under p, inside one object.
+pub fn in_page(
+    f: &[u8],
+    n: usize,
+    k: usize,
+    u: usize,
+    p: &[u8],
+    x: usize,
+    t: usize,
+    q: &[u8],
+    tab: &[u64],
+) -> bool
+    requires { ⌜ (Table (now f) n k (now tab)) × (length (now p) ≤ 8) × (length (now q) ≤ 8) × (x < 256) ⌝ }
+    ensures { λ r. ⌜ InPageIs (now (f .entry)) u (now (p .entry)) x t (now (q .entry)) r ⌝ }
+{
+    let e = extent_at(n, u, tab, f, k);
+    let size = e.size;
+    if size == 0 {
+        return false;
+    }
+    if x / size * size + size > 256 {
+        return false;
+    }
+    run_at(f, n, k, u, p, x % size, t, q, tab)
+}
+
+// Kind 22, and a pointer that is not zero: whether address a is one of the run of term t under q in live region r, whose objects
+// are of term u under p. `owner` is the owner of the page of a.
+pub fn stands(
+    f: &[u8],
+    n: usize,
+    k: usize,
+    r: Live,
+    owner: u8,
+    u: usize,
+    p: &[u8],
+    a: u32,
+    t: usize,
+    q: &[u8],
+    tab: &[u64],
+) -> bool
+    requires { ⌜ (Table (now f) n k (now tab)) × (length (now p) ≤ 8) × (length (now q) ≤ 8) ⌝ }
+    ensures { λ b. ⌜ StandsIs (now (f .entry)) (r .0) owner u (now (p .entry)) a t (now (q .entry)) b ⌝ }
+{
+    let region = r.0;
+    if a >= 16384 {
+        return false;
+    }
+    if owner == 0 {
+        return false;
+    }
+    if owner - 1 != region {
+        return false;
+    }
+    in_page(f, n, k, u, p, (a % 256) as usize, t, q, tab)
 }

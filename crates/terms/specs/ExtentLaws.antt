@@ -216,7 +216,7 @@ module _ (f : Bytes) (n N : ℕ) where
   unfolding soFar firsts cap
   so-begin = refl
 
-  so-more : (i : ℕ) → soFar f n N (suc i) ≡ plus (soFar f n N i) (termExtent f N (fieldPlace f n N i))
+  pub so-more : (i : ℕ) → soFar f n N (suc i) ≡ plus (soFar f n N i) (termExtent f N (fieldPlace f n N i))
   unfolding soFar firsts termExtent
   so-more i = extent-beside (firsts (layouts (moduleOf f) N) (λ j. treeAt f (fieldPlace f n N j)) i) (flatWith (layouts (moduleOf f) N) (treeAt f (fieldPlace f n N i)))
 

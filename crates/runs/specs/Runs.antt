@@ -1,0 +1,411 @@
+-- Runs as the code decides them: a run is there where as many primitives follow and each is the same. Assumes nothing.
+use mathlib.Core.Path.{_≡_, refl, sym, ap, ap₂, _∙_, subst}
+use mathlib.Core.Logic.{_⊎_, inl, inr, ⊎-elim}
+use mathlib.Core.Bool.{Bool, true, false, _&&_, not, cond}
+use mathlib.Core.List.{List, [], _∷_, map}
+use Prim.Native.Nat.{ℕ, zero, suc, _+_, _-_, _*_, _/_, _%_, _≤_, _<_}
+use native.Mathlib.Decide.{ℕ-discrete, decLt, decLe}
+use native.Mathlib.Nat.{mul-comm}
+use native.Mathlib.Omega.{arith}
+use lib.Dec.{eqb, ltb, leb}
+use lib.ListN.{length, getD, List·getD-map}
+use lib.Seq.{take-all}
+use borrow.Author.Tests.{eq-eqb, ne-eqb, eqb-true, lt-ltb, le-ltb, ltb-true, le-leb, lt-leb, leb-true}
+use Rattle.words.specs.Bytes.{Bytes}
+use Rattle.words.specs.Choose.{false-by, true-not-false, lt-or-le, bool-same, and-no}
+use Rattle.words.specs.First.{first}
+use Rattle.words.specs.FirstLaws.{first-is}
+use Rattle.words.specs.Decide.{does, does-true, decBoth, mapDec}
+use Rattle.rules.specs.Types.{RegionKind, variable, live, Region, Variable, region, Tree, int, ptr, arr, struct, sub, arg, nowhere, decTree, form, numberOf, inner}
+use Rattle.rules.specs.Module.{Module}
+use Rattle.rules.specs.Flat.{Placed, at, off, type, Layout, count, none, moved, copies, placedIn, subLayout, flatWith, layouts, flat, distance, decPlaced, Run, decRun, positionAt, Same, decSame, size}
+use Rattle.rules.specs.Decode.{moduleOf}
+use Rattle.layout.specs.Types.{sub-sub}
+use Rattle.layout.specs.Prims.{nth, moved-zero, moved-off, placed-off, count-sub, subLayout-size, subLayout-copies}
+use Rattle.rules.specs.Limits.{pages, pageBytes}
+use Rattle.rules.specs.Heap.{HeapTyping, decStands}
+use Rattle.layout.specs.Flat.{distance-zero, size-sub}
+use Rattle.layout.specs.Runs.{Matches, run-matches, matches-run, Rising, flat-rising, nth-sub, distance-sub, position-sub}
+use Rattle.terms.specs.Heads.{placeOf, treeAt}
+use Rattle.terms.specs.Extents.{Counted}
+use Rattle.terms.specs.Compare.{byteUnder, under, under-is, sub-same, does-yes, does-map, does-both, does-nat, placesSame}
+use Rattle.runs.specs.Table.{termLayout, Table}
+use Rattle.runs.specs.TableLaws.{layout-term}
+use Rattle.runs.specs.Positions.{Keeps, Agree, under-agree, placedOf, Found}
+use Rattle.terms.specs.declared.Extent.{Extent}
+use Rattle.runs.specs.declared.Primitive.{Primitive}
+
+-- what holds of written variables and of live regions holds of both kinds
+pub of-kinds : (P : RegionKind → Type 0) → P variable → P live → (k : RegionKind) → P k
+of-kinds P v l variable = v
+of-kinds P v l live = l
+
+-- ---- a run by its primitives
+
+module _ {k : RegionKind} (L : Layout k) (q : ℕ) (M : Layout k) where
+  -- primitive i of M is that of L at position q + i
+  abbrev pub sameAt : ℕ → Bool
+  sameAt i = does (decPlaced (nth L (q + i)) (moved (distance L q) (nth M i)))
+
+  pub run-none : count M ≡ 0 → false ≡ does (decRun L q M)
+  run-none h = sym (false-by (λ e. let s = does-true (decRun L q M) e .some in omega arith))
+
+  pub run-short : count L < q + count M → false ≡ does (decRun L q M)
+  run-short h = sym (false-by (λ e. let s = run-matches L q M (does-true (decRun L q M) e) .room in omega arith))
+
+  pub run-broken : (i : ℕ) → i < count M → sameAt i ≡ false → false ≡ does (decRun L q M)
+  run-broken i l h =
+      sym (false-by (λ e. true-not-false (does-yes (decPlaced (nth L (q + i)) (moved (distance L q) (nth M i))) (run-matches L q M (does-true (decRun L q M) e) .each i l)) h))
+
+  pub run-all : 0 < count M → q + count M ≤ count L → ((i : ℕ) → i < count M → sameAt i ≡ true) → true ≡ does (decRun L q M)
+  run-all s r h =
+      sym (does-yes (decRun L q M) (matches-run L q M (record { some = s; room = r; each = λ i l. does-true (decPlaced (nth L (q + i)) (moved (distance L q) (nth M i))) (h i l) })))
+
+-- ---- one primitive
+
+module _ (k : RegionKind) (f : Bytes) where
+  pub placed-same : (x : Primitive) (from : ℕ) (y : Primitive)
+      → eqb (x .off) (from + y .off) && placesSame k f (x .place) (x .to) (y .place) (y .to) ≡ does (decPlaced (placedOf k f x) (moved from (placedOf k f y)))
+  unfolding decPlaced placesSame
+  placed-same x from y =
+      sym (does-map _ _ (decBoth (ℕ-discrete (x .off) (from + y .off)) (decTree (sub (under {k = k} (x .to)) (treeAt f (x .place))) (sub (under (y .to)) (treeAt f (y .place)))))
+      ∙ does-both (ℕ-discrete (x .off) (from + y .off)) (decTree (sub (under {k = k} (x .to)) (treeAt f (x .place))) (sub (under (y .to)) (treeAt f (y .place))))
+      ∙ ap (λ (b : Bool). b && does (decTree (sub (under {k = k} (x .to)) (treeAt f (x .place))) (sub (under (y .to)) (treeAt f (y .place))))) (does-nat (x .off) (from + y .off)))
+
+-- the sum of the code, as a difference
+pub eqb-minus : (x from y : ℕ) → from ≤ x → eqb (x - from) y ≡ eqb x (from + y)
+eqb-minus x from y h = bool-same (eqb (x - from) y) (eqb x (from + y))
+    (λ e. eq-eqb x (from + y) (let z = eqb-true (x - from) y e in omega arith))
+    (λ e. eq-eqb (x - from) y (let z = eqb-true x (from + y) e in omega arith))
+
+pub eqb-less : (x from y : ℕ) → x < from → eqb x (from + y) ≡ false
+eqb-less x from y h = ne-eqb x (from + y) (λ e. omega arith)
+
+-- ---- what the code finds, under substitutions
+
+-- what was found, from the start, is the primitive of the substituted layout
+pub found-nth : (f : Bytes) (r : Primitive) (to : Bytes) (L : Layout variable) (i : ℕ) → Found f r to 0 (nth L i) → (k : RegionKind) → placedOf k f r ≡ nth (subLayout (under {k = k} to) L) i
+found-nth f r to L i h k = h k ∙ moved-zero (placedIn (under {k = k} to) (nth L i)) ∙ sym (nth-sub (under to) L i)
+
+pub found-off : (f : Bytes) (r : Primitive) (to : Bytes) (L : Layout variable) (i : ℕ) → Found f r to 0 (nth L i) → r .off ≡ distance L i
+found-off f r to L i h = ap off (found-nth f r to L i h variable) ∙ distance-sub (under {k = variable} to) L i
+
+-- ---- the layout of a substituted term
+
+-- flat types go through a substitution that keeps nowhere
+with-keeps : {j k : RegionKind} (ls : List (Layout variable)) (σ : Region j → Region k) → σ (region nowhere) ≡ region nowhere → (T : Tree j) → flatWith ls (sub σ T) ≡ subLayout σ (flatWith ls T)
+unfolding flatWith sub subLayout
+with-keeps ls σ h (int w) = refl
+with-keeps ls σ h (ptr T r) = refl
+with-keeps ls σ h (arr n T) = ap (copies n) (with-keeps ls σ h T) ∙ sym (subLayout-copies σ n (flatWith ls T))
+with-keeps {j} {k} ls σ h (struct N rs) =
+    ap (λ (l : List (Placed k)). record { size = getD ls N none .size; prims = l }) (through (getD ls N none .prims))
+  where
+    argument : (v : Variable) → arg (map σ rs) v ≡ σ (arg rs v)
+    argument v = subst (λ (z : Region k). getD (map σ rs) (v .number) z ≡ σ (getD rs (v .number) (region nowhere))) h (List·getD-map σ rs (v .number) (region nowhere))
+
+    through : (l : List (Placed variable)) → map (placedIn (arg (map σ rs))) l ≡ map (placedIn σ) (map (placedIn (arg rs)) l)
+    through [] = refl
+    through (at d T ∷ l) =
+        ap₂ {C = List (Placed k)} _∷_ (ap {B = Placed k} (at d) (sub-same (arg (map σ rs)) (λ v. σ (arg rs v)) argument T ∙ sym (sub-sub σ (arg rs) T))) (through l)
+
+-- term t of the file under p, as the code has it: at its place, under p held
+pub layout-under : (k : RegionKind) (f : Bytes) (n s : ℕ) → Counted f n s → (t : ℕ) (p held : Bytes) → Keeps held → Agree held p
+    → subLayout (under {k = k} held) (termLayout f s (placeOf n t)) ≡ flat (moduleOf f) (sub (under p) (moduleOf f .term t))
+unfolding flat
+layout-under k f n s h t p held keeps agree =
+    ap (subLayout (under {k = k} held)) (layout-term f n s h t)
+    ∙ sym (with-keeps (layouts (moduleOf f) (moduleOf f .structs)) (under {k = k} held) (under-is held (region nowhere) ∙ ap region keeps) (moduleOf f .term t))
+    ∙ ap (λ (T : Tree k). flatWith (layouts (moduleOf f) (moduleOf f .structs)) T) (sub-same (under {k = k} held) (under p) (under-agree held p agree) (moduleOf f .term t))
+
+-- ---- positions
+
+-- the first primitive at distance o
+pub position-found : {k : RegionKind} (L : Layout k) (o i : ℕ) → i < count L → ((j : ℕ) → j < i → distance L j ≡ o → ⊥) → distance L i ≡ o → i ≡ positionAt L o
+unfolding positionAt
+position-found L o i l before h =
+    sym (first-is (count L) (λ q. not (eqb (distance L q) o)) i (omega arith) (λ j m. ap not (ne-eqb (distance L j) o (before j m))) (λ _. ap not (eq-eqb (distance L i) o h)))
+
+pub position-none : {k : RegionKind} (L : Layout k) (o i : ℕ) → i ≡ count L → ((j : ℕ) → j < i → distance L j ≡ o → ⊥) → i ≡ positionAt L o
+unfolding positionAt
+position-none L o i e before =
+    sym (first-is (count L) (λ q. not (eqb (distance L q) o)) i (omega arith) (λ j m. ap not (ne-eqb (distance L j) o (before j m))) (λ l. absurd (omega arith)))
+
+-- ---- the code's loop over a run
+
+module _ (f : Bytes) (A : Layout variable) (p : Bytes) (d : ℕ) (B : Layout variable) (q : Bytes) where
+  -- the first i primitives are the same, of both kinds of regions
+  abbrev pub RunTo : ℕ → Type 0
+  RunTo i = (j : RegionKind) (h : ℕ) → h < i → sameAt (subLayout (under {k = j} p) A) d (subLayout (under q) B) h ≡ true
+
+  module _ (first x y : Primitive) (i : ℕ) (a : Found f first p 0 (nth A d)) (b : Found f x p 0 (nth A (d + i))) (c : Found f y q 0 (nth B i)) (r : Bool)
+      (is : (j : RegionKind) → r ≡ does (decPlaced (placedOf j f x) (moved (first .off) (placedOf j f y)))) where
+    prim-same : (j : RegionKind) → r ≡ sameAt (subLayout (under {k = j} p) A) d (subLayout (under q) B) i
+    prim-same j =
+        is j
+        ∙ ap₂ (λ (P Q : Placed j). does (decPlaced P (moved (first .off) Q))) (found-nth f x p A (d + i) b j) (found-nth f y q B i c j)
+        ∙ ap (λ (z : ℕ). does (decPlaced (nth (subLayout (under {k = j} p) A) (d + i)) (moved z (nth (subLayout (under q) B) i)))) (found-off f first p A d a ∙ sym (distance-sub (under {k = j} p) A d))
+
+    pub run-more : r ≡ true → RunTo i → RunTo (i + 1)
+    run-more e so j h l = ⊎-elim
+        (λ m. so j h m)
+        (λ m. let z : h ≡ i = omega arith in rw z (sym (prim-same j) ∙ e))
+        (lt-or-le h i)
+
+    pub run-stop : i < count B → r ≡ false → (j : RegionKind) → false ≡ does (decRun (subLayout (under {k = j} p) A) d (subLayout (under q) B))
+    run-stop l e j = run-broken (subLayout (under {k = j} p) A) d (subLayout (under q) B) i (rw (count-sub (under {k = j} q) B) l) (sym (prim-same j) ∙ e)
+
+  pub run-end : 0 < count B → d + count B ≤ count A → (i : ℕ) → count B ≤ i → RunTo i → (j : RegionKind) → true ≡ does (decRun (subLayout (under {k = j} p) A) d (subLayout (under q) B))
+  run-end s r i l so j =
+      let a = count-sub (under {k = j} p) A in
+      let b = count-sub (under {k = j} q) B in
+      run-all (subLayout (under {k = j} p) A) d (subLayout (under q) B) (omega arith) (omega arith) (λ h m. so j h (omega arith))
+
+  pub run-empty : count B ≡ 0 → (j : RegionKind) → false ≡ does (decRun (subLayout (under {k = j} p) A) d (subLayout (under q) B))
+  run-empty e j = run-none (subLayout (under {k = j} p) A) d (subLayout (under q) B) (count-sub (under {k = j} q) B ∙ e)
+
+  pub run-past : count A < d + count B → (j : RegionKind) → false ≡ does (decRun (subLayout (under {k = j} p) A) d (subLayout (under q) B))
+  run-past l j =
+      let a = count-sub (under {k = j} p) A in
+      let b = count-sub (under {k = j} q) B in
+      run-short (subLayout (under {k = j} p) A) d (subLayout (under q) B) (omega arith)
+
+-- terms u and t of the file under p and q, as they are held
+abbrev pub RunIs : Bytes → ℕ → Bytes → ℕ → ℕ → Bytes → Bool → Type 0
+RunIs f u p d t q r =
+    (r ≡ does (decRun (flat (moduleOf f) (sub (under {k = variable} p) (moduleOf f .term u))) d (flat (moduleOf f) (sub (under q) (moduleOf f .term t)))))
+    × (r ≡ does (decRun (flat (moduleOf f) (sub (under {k = live} p) (moduleOf f .term u))) d (flat (moduleOf f) (sub (under q) (moduleOf f .term t)))))
+
+module _ (f : Bytes) (n s : ℕ) (h : Counted f n s) (u : ℕ) (p hp : Bytes) (kp : Keeps hp) (ap' : Agree hp p) (t : ℕ) (q hq : Bytes) (kq : Keeps hq) (aq : Agree hq q) (d a b : ℕ) (ea : a ≡ placeOf n u) (eb : b ≡ placeOf n t) where
+  run-kind : (j : RegionKind) → does (decRun (subLayout (under {k = j} hp) (termLayout f s a)) d (subLayout (under hq) (termLayout f s b)))
+      ≡ does (decRun (flat (moduleOf f) (sub (under {k = j} p) (moduleOf f .term u))) d (flat (moduleOf f) (sub (under q) (moduleOf f .term t))))
+  run-kind j =
+      ap₂ (λ (x y : ℕ). does (decRun (subLayout (under {k = j} hp) (termLayout f s x)) d (subLayout (under hq) (termLayout f s y)))) ea eb
+      ∙ ap₂ (λ (L M : Layout j). does (decRun L d M)) (layout-under j f n s h u p hp kp ap') (layout-under j f n s h t q hq kq aq)
+
+  pub run-is : (r : Bool) → ((j : RegionKind) → r ≡ does (decRun (subLayout (under {k = j} hp) (termLayout f s a)) d (subLayout (under hq) (termLayout f s b)))) → RunIs f u p d t q r
+  run-is r e = (e variable ∙ run-kind variable, e live ∙ run-kind live)
+
+-- ---- positions by halves
+
+-- all before low are nearer than o, and all from high on are not
+pub record Lower (L : Layout variable) (o low high : ℕ) : Type 0 where
+  pub within : high ≤ count L
+  pub ordered : low ≤ high
+  pub nearer : (j : ℕ) → j < low → distance L j < o
+  pub further : (j : ℕ) → high ≤ j → j < count L → o ≤ distance L j
+
+pub lower-start : (L : Layout variable) (o many : ℕ) → many ≡ count L → Lower L o 0 many
+lower-start L o many e = record { within = omega arith; ordered = omega arith; nearer = λ j l. absurd (omega arith); further = λ j l m. absurd (omega arith) }
+
+module _ (L : Layout variable) (up : Rising L) (o low high mid : ℕ) (so : Lower L o low high) (a : low ≤ mid) (b : mid < high) where
+  in-list : mid < count L
+  in-list = let w = so .within in omega arith
+
+  pub lower-up : distance L mid < o → Lower L o (mid + 1) high
+  lower-up h = record {
+    within = so .within;
+    ordered = omega arith;
+    nearer = λ j l. ⊎-elim (λ m. let u = up j mid m in-list in omega arith) (λ m. let z : j ≡ mid = omega arith in rw z h) (lt-or-le j mid);
+    further = so .further;
+  }
+
+  pub lower-down : o ≤ distance L mid → Lower L o low mid
+  lower-down h = record {
+    within = let w = so .within in omega arith;
+    ordered = a;
+    nearer = so .nearer;
+    further = λ j l m. ⊎-elim (λ w. let u = up mid j w m in omega arith) (λ w. let z : j ≡ mid = omega arith in rw z h) (lt-or-le mid j);
+  }
+
+module _ (L : Layout variable) (o i : ℕ) (so : Lower L o i i) where
+  pub lower-found : i < count L → distance L i ≡ o → i ≡ positionAt L o
+  lower-found l h = position-found L o i l (λ j m e. let s = so .nearer j m in omega arith) h
+
+  pub lower-other : Rising L → i < count L → (distance L i ≡ o → ⊥) → (many : ℕ) → many ≡ count L → many ≡ positionAt L o
+  lower-other up l h many e = position-none L o many e
+      (λ j m d. ⊎-elim
+      (λ w. let s = so .nearer j w in omega arith)
+      (λ w. ⊎-elim (λ v. let u = up i j v (omega arith) in let s = so .further i (omega arith) l in h (omega arith)) (λ v. h (let z : i ≡ j = omega arith in rw z d)) (lt-or-le i j))
+      (lt-or-le j i))
+
+  pub lower-past : count L ≤ i → (many : ℕ) → many ≡ count L → many ≡ positionAt L o
+  lower-past l many e = position-none L o many e (λ j m d. let s = so .nearer j (let w = so .within in omega arith) in omega arith)
+
+-- distances grow, also in the layout at a place
+pub layout-rising : (f : Bytes) (n k : ℕ) → Counted f n k → (p : ℕ) → Rising (termLayout f k p)
+unfolding termLayout
+layout-rising f n k h p = rw (h .structs) (unfold flat in flat-rising (moduleOf f) (treeAt f p))
+
+abbrev pub RunAtIs : Bytes → ℕ → Bytes → ℕ → ℕ → Bytes → Bool → Type 0
+RunAtIs f u p o t q r =
+    (r ≡ does (decRun (flat (moduleOf f) (sub (under {k = variable} p) (moduleOf f .term u))) (positionAt (flat (moduleOf f) (sub (under {k = variable} p) (moduleOf f .term u))) o) (flat (moduleOf f) (sub (under q) (moduleOf f .term t)))))
+    × (r ≡ does (decRun (flat (moduleOf f) (sub (under {k = live} p) (moduleOf f .term u))) (positionAt (flat (moduleOf f) (sub (under {k = live} p) (moduleOf f .term u))) o) (flat (moduleOf f) (sub (under q) (moduleOf f .term t)))))
+
+-- a position does not depend on the regions
+pub position-under : (k : RegionKind) (f : Bytes) (p : Bytes) → Keeps p → (t o : ℕ) → positionAt (flat (moduleOf f) (sub (under {k = k} p) (moduleOf f .term t))) o ≡ positionAt (flat (moduleOf f) (moduleOf f .term t)) o
+unfolding flat
+position-under k f p keeps t o =
+    ap (λ (L : Layout k). positionAt L o) (with-keeps (layouts (moduleOf f) (moduleOf f .structs)) (under {k = k} p) (under-is p (region nowhere) ∙ ap region keeps) (moduleOf f .term t))
+    ∙ position-sub (under {k = k} p) (flatWith (layouts (moduleOf f) (moduleOf f .structs)) (moduleOf f .term t)) o
+
+pub run-at-is : (f : Bytes) (u : ℕ) (p : Bytes) → Keeps p → (o t : ℕ) (q : Bytes) (d : ℕ) → d ≡ positionAt (flat (moduleOf f) (moduleOf f .term u)) o → (r : Bool) → RunIs f u p d t q r → RunAtIs f u p o t q r
+run-at-is f u p keeps o t q d e r h = (
+  h .0 ∙ ap (λ (x : ℕ). does (decRun (flat (moduleOf f) (sub (under {k = variable} p) (moduleOf f .term u))) x (flat (moduleOf f) (sub (under q) (moduleOf f .term t))))) (e ∙ sym (position-under variable f p keeps u o)),
+  h .1 ∙ ap (λ (x : ℕ). does (decRun (flat (moduleOf f) (sub (under {k = live} p) (moduleOf f .term u))) x (flat (moduleOf f) (sub (under q) (moduleOf f .term t))))) (e ∙ sym (position-under live f p keeps u o)),
+)
+
+-- ---- equal primitives
+
+abbrev pub SameIs : Bytes → ℕ → Bytes → ℕ → Bytes → Bool → Type 0
+SameIs f u p t q r =
+    (r ≡ does (decSame (flat (moduleOf f) (sub (under {k = variable} p) (moduleOf f .term u))) (flat (moduleOf f) (sub (under q) (moduleOf f .term t)))))
+    × (r ≡ does (decSame (flat (moduleOf f) (sub (under {k = live} p) (moduleOf f .term u))) (flat (moduleOf f) (sub (under q) (moduleOf f .term t)))))
+
+module _ {k : RegionKind} (L M : Layout k) where
+  pub same-counts : (count L ≡ count M → ⊥) → false ≡ does (decSame L M)
+  same-counts h = sym (false-by (λ e. h (ap length (does-true (decSame L M) e .equal))))
+
+  -- as many primitives, and the run from the first one, which is at distance 0
+  pub same-run-from : count L ≡ count M → (0 < count L → distance L 0 ≡ 0) → does (decRun L 0 M) ≡ does (decSame L M)
+  same-run-from e z = bool-same (does (decRun L 0 M)) (does (decSame L M))
+      (λ h. let r = does-true (decRun L 0 M) h in does-yes (decSame L M) (record { some = let s = r .some in omega arith; equal = to r }))
+      (λ h. let s = does-true (decSame L M) h in does-yes (decRun L 0 M) (from s))
+    where
+      nothing : (l : List (Placed k)) (x : ℕ) → x ≡ 0 → map (moved x) l ≡ l
+      nothing [] x q = refl
+      nothing (P ∷ l) x q = ap₂ {C = List (Placed k)} _∷_ (ap (λ (y : ℕ). moved y P) q ∙ moved-zero P) (nothing l x q)
+
+      to : Run L 0 M → L .prims ≡ M .prims
+      to r =
+          let s = r .some in
+          sym (take-all (count M) (L .prims) (omega arith)) ∙ r .equal ∙ nothing (M .prims) (distance L 0) (z (omega arith))
+
+      from : Same L M → Run L 0 M
+      from s = record {
+        some = let p = s .some in omega arith;
+        equal = take-all (count M) (L .prims) (omega arith) ∙ s .equal ∙ sym (nothing (M .prims) (distance L 0) (z (s .some)));
+      }
+
+-- ---- the element of an array
+
+pub record ElementIs (f : Bytes) (t : ℕ) (e : Extent) : Type 0 where
+  pub size : form (moduleOf f .term t) ≡ 3 → e .size ≡ size (moduleOf f) (inner (moduleOf f .term t))
+  pub count : e .count ≡ numberOf (moduleOf f .term t)
+
+module _ (f : Bytes) (n s : ℕ) (tab : List ℕ) (h : Table f n s tab) (u : ℕ) (p : Bytes) (kp : Keeps p) (t : ℕ) (q : Bytes) (kq : Keeps q) (a b : ℕ) (ea : a ≡ placeOf n u) (eb : b ≡ placeOf n t) (la : a ≤ n) where
+  module _ (j : RegionKind) where
+    abbrev L : Layout j
+    L = flat (moduleOf f) (sub (under {k = j} p) (moduleOf f .term u))
+
+    abbrev M : Layout j
+    M = flat (moduleOf f) (sub (under {k = j} q) (moduleOf f .term t))
+
+    is-L : subLayout (under {k = j} p) (termLayout f s a) ≡ L
+    is-L = ap (λ (x : ℕ). subLayout (under {k = j} p) (termLayout f s x)) ea ∙ layout-under j f n s (h .counted) u p p kp (λ v. refl)
+
+    is-M : subLayout (under {k = j} q) (termLayout f s b) ≡ M
+    is-M = ap (λ (x : ℕ). subLayout (under {k = j} q) (termLayout f s x)) eb ∙ layout-under j f n s (h .counted) t q q kq (λ v. refl)
+
+    count-L : count L ≡ count (termLayout f s a)
+    count-L = ap (λ (N : Layout j). count N) (sym is-L) ∙ count-sub (under {k = j} p) (termLayout f s a)
+
+    count-M : count M ≡ count (termLayout f s b)
+    count-M = ap (λ (N : Layout j). count N) (sym is-M) ∙ count-sub (under {k = j} q) (termLayout f s b)
+
+    first-zero : 0 < count L → distance L 0 ≡ 0
+    first-zero l =
+        let c = count-L in
+        distance-zero (moduleOf f) (sub (under {k = j} p) (moduleOf f .term u))
+        (omega (arith, h .sized a la (omega arith), ap (λ (N : Layout j). N .size) (sym is-L), subLayout-size (under {k = j} p) (termLayout f s a)))
+
+  pub same-no : (count (termLayout f s a) ≡ count (termLayout f s b) → ⊥) → SameIs f u p t q false
+  same-no d = (same-counts (L variable) (M variable) (λ e. d (sym (count-L variable) ∙ e ∙ count-M variable)), same-counts (L live) (M live) (λ e. d (sym (count-L live) ∙ e ∙ count-M live)))
+
+  pub same-is : count (termLayout f s a) ≡ count (termLayout f s b) → (r : Bool) → RunIs f u p 0 t q r → SameIs f u p t q r
+  same-is e r w = (
+    w .0 ∙ same-run-from (L variable) (M variable) (count-L variable ∙ e ∙ sym (count-M variable)) (first-zero variable),
+    w .1 ∙ same-run-from (L live) (M live) (count-L live ∙ e ∙ sym (count-M live)) (first-zero live),
+  )
+
+-- ---- addresses
+
+-- the run of M stands at byte x of a page of objects of L: "inside", "sized", "fits" and "run" of `Stands`
+unfoldable pub inPage : {k : RegionKind} → Layout k → ℕ → Layout k → Bool
+inPage L x M = ltb 0 (L .size) && (leb (L .size * suc (x / L .size)) 256 && does (decRun L (positionAt L (x % L .size)) M))
+
+abbrev pub InPageIs : Bytes → ℕ → Bytes → ℕ → ℕ → Bytes → Bool → Type 0
+InPageIs f u p x t q r =
+    (r ≡ inPage (flat (moduleOf f) (sub (under {k = variable} p) (moduleOf f .term u))) x (flat (moduleOf f) (sub (under q) (moduleOf f .term t))))
+    × (r ≡ inPage (flat (moduleOf f) (sub (under {k = live} p) (moduleOf f .term u))) x (flat (moduleOf f) (sub (under q) (moduleOf f .term t))))
+
+-- for every heap typing in which the page of a has this owner and the region this type
+abbrev pub StandsIs : Bytes → ℕ → ℕ → ℕ → Bytes → ℕ → ℕ → Bytes → Bool → Type 0
+StandsIs f r owner u p a t q b =
+    (W : HeapTyping) → W .owner (a / pageBytes) ≡ owner → W .type r ≡ sub (under p) (moduleOf f .term u)
+    → b ≡ does (decStands (moduleOf f) W (sub (under q) (moduleOf f .term t)) r a)
+
+module _ {k : RegionKind} (L : Layout k) (x : ℕ) (M : Layout k) (sz : ℕ) (is : sz ≡ L .size) where
+  pub page-none : sz ≡ 0 → false ≡ inPage L x M
+  unfolding inPage
+  page-none e = let z : L .size ≡ 0 = sym is ∙ e in rw z refl
+
+  pub page-past : (sz ≡ 0 → ⊥) → 256 < x / sz * sz + sz → false ≡ inPage L x M
+  unfolding inPage
+  page-past d h =
+      let c = mul-comm (L .size) (suc (x / L .size)) in
+      let w : 256 < x / L .size * L .size + L .size = rw is at h in
+      sym (ap₂ (λ (a b : Bool). a && (b && does (decRun L (positionAt L (x % L .size)) M))) (lt-ltb 0 (L .size) (omega arith)) (lt-leb (L .size * suc (x / L .size)) 256 (omega arith)))
+
+  pub page-in : (sz ≡ 0 → ⊥) → x / sz * sz + sz ≤ 256 → (r : Bool) → r ≡ does (decRun L (positionAt L (x % sz)) M) → r ≡ inPage L x M
+  unfolding inPage
+  page-in d h r e =
+      let c = mul-comm (L .size) (suc (x / L .size)) in
+      let w : x / L .size * L .size + L .size ≤ 256 = rw is at h in
+      e ∙ ap (λ (s : ℕ). does (decRun L (positionAt L (x % s)) M)) is
+      ∙ sym (ap₂ (λ (a b : Bool). a && (b && does (decRun L (positionAt L (x % L .size)) M))) (lt-ltb 0 (L .size) (omega arith)) (le-leb (L .size * suc (x / L .size)) 256 (omega arith)))
+
+-- sizes do not depend on regions
+pub size-under : (k : RegionKind) (f p : Bytes) (t : ℕ) → size (moduleOf f) (moduleOf f .term t) ≡ size (moduleOf f) (sub (under {k = k} p) (moduleOf f .term t))
+size-under k f p t = sym (size-sub (under {k = k} p) (moduleOf f) (moduleOf f .term t))
+
+does-le : (m n : ℕ) → does (decLe m n) ≡ leb m n
+does-le m n = bool-same (does (decLe m n)) (leb m n) (λ e. le-leb m n (does-true (decLe m n) e)) (λ e. does-yes (decLe m n) (leb-true m n e))
+
+does-lt : (m n : ℕ) → does (decLt m n) ≡ ltb m n
+does-lt m n = bool-same (does (decLt m n)) (ltb m n) (λ e. lt-ltb m n (does-true (decLt m n) e)) (λ e. does-yes (decLt m n) (ltb-true m n e))
+
+stands-test : (m : Module) (W : HeapTyping) (T U : Tree live) (r a : ℕ) → W .type r ≡ U
+    → does (decStands m W T r a) ≡ (ltb (a / pageBytes) pages && eqb (W .owner (a / pageBytes)) (suc r)) && inPage (flat m U) (a % pageBytes) (flat m T)
+unfolding decStands inPage
+stands-test m W T U r a e =
+    let L : Layout live = flat m (W .type r) in
+    does-map _ _ (decBoth (decBoth (decLt (a / pageBytes) pages) (ℕ-discrete (W .owner (a / pageBytes)) (suc r))) (decBoth (decLt 0 (L .size)) (decBoth (decLe (L .size * suc (a % pageBytes / L .size)) pageBytes) (decRun L (positionAt L (a % pageBytes % L .size)) (flat m T)))))
+    ∙ does-both (decBoth (decLt (a / pageBytes) pages) (ℕ-discrete (W .owner (a / pageBytes)) (suc r))) (decBoth (decLt 0 (L .size)) (decBoth (decLe (L .size * suc (a % pageBytes / L .size)) pageBytes) (decRun L (positionAt L (a % pageBytes % L .size)) (flat m T))))
+    ∙ ap₂ (λ (x y : Bool). x && y)
+    (does-both (decLt (a / pageBytes) pages) (ℕ-discrete (W .owner (a / pageBytes)) (suc r)) ∙ ap₂ (λ (x y : Bool). x && y) (does-lt (a / pageBytes) pages) (does-nat (W .owner (a / pageBytes)) (suc r)))
+    (does-both (decLt 0 (L .size)) (decBoth (decLe (L .size * suc (a % pageBytes / L .size)) pageBytes) (decRun L (positionAt L (a % pageBytes % L .size)) (flat m T)))
+    ∙ ap₂ (λ (x y : Bool). x && y) (does-lt 0 (L .size))
+    (does-both (decLe (L .size * suc (a % pageBytes / L .size)) pageBytes) (decRun L (positionAt L (a % pageBytes % L .size)) (flat m T))
+    ∙ ap (λ (x : Bool). x && does (decRun L (positionAt L (a % pageBytes % L .size)) (flat m T))) (does-le (L .size * suc (a % pageBytes / L .size)) pageBytes)))
+    ∙ ap (λ (X : Tree live). (ltb (a / pageBytes) pages && eqb (W .owner (a / pageBytes)) (suc r)) && inPage (flat m X) (a % pageBytes) (flat m T)) e
+
+module _ (f : Bytes) (r owner u : ℕ) (p : Bytes) (a t : ℕ) (q : Bytes) where
+  stands-no : (ltb (a / pageBytes) pages && eqb owner (suc r) ≡ false) → StandsIs f r owner u p a t q false
+  stands-no h W own ty =
+      sym (stands-test (moduleOf f) W (sub (under q) (moduleOf f .term t)) (sub (under p) (moduleOf f .term u)) r a ty
+      ∙ ap (λ (x : ℕ). (ltb (a / pageBytes) pages && eqb x (suc r)) && inPage (flat (moduleOf f) (sub (under {k = live} p) (moduleOf f .term u))) (a % pageBytes) (flat (moduleOf f) (sub (under q) (moduleOf f .term t)))) own
+      ∙ ap (λ (b : Bool). b && inPage (flat (moduleOf f) (sub (under {k = live} p) (moduleOf f .term u))) (a % pageBytes) (flat (moduleOf f) (sub (under q) (moduleOf f .term t)))) h)
+
+  pub stands-far : 16384 ≤ a → StandsIs f r owner u p a t q false
+  stands-far h = stands-no (ap (λ (b : Bool). b && eqb owner (suc r)) (le-ltb (a / pageBytes) pages (omega arith)))
+
+  pub stands-other : (owner ≡ suc r → ⊥) → StandsIs f r owner u p a t q false
+  stands-other h = stands-no (and-no (ltb (a / pageBytes) pages) (eqb owner (suc r)) (inr (ne-eqb owner (suc r) h)))
+
+  pub stands-in : a < 16384 → owner ≡ suc r → (b : Bool) → InPageIs f u p (a % 256) t q b → StandsIs f r owner u p a t q b
+  stands-in l e b h W own ty =
+      sym (stands-test (moduleOf f) W (sub (under q) (moduleOf f .term t)) (sub (under p) (moduleOf f .term u)) r a ty
+      ∙ ap₂ (λ (x y : Bool). (x && y) && inPage (flat (moduleOf f) (sub (under {k = live} p) (moduleOf f .term u))) (a % pageBytes) (flat (moduleOf f) (sub (under q) (moduleOf f .term t))))
+      (lt-ltb (a / pageBytes) pages (omega arith)) (eq-eqb (W .owner (a / pageBytes)) (suc r) (own ∙ e))
+      ∙ sym (h .1))
