@@ -29,7 +29,7 @@ cast-result-2 : tie.Need-cast-result-2
 cast-result-2 c = search needs
 
 returns : tie.Need-returns
-returns c = stands-by (c .before .before .before .before .before .before .before .pre .count) (c .before .before .before .wide .ensures .0 ∙ c .before .before .before .before .function .ensures) (c .before .before .instruction .ensures) (c .instructions-of .ensures ∙ ap instructionsOf (c .before .head .ensures))
+returns c = stands-by (c .before .before .before .before .before .before .before .pre .count) (c .before .before .before .wide .ensures .0 ∙ c .before .before .before .before .function .ensures) (c .before .before .instruction .ensures) (c .instructions-of .ensures .0 ∙ ap instructionsOf (c .before .head .ensures))
 
 pub stands-spec : {M : Type 1} → statement M
 stands-spec =
