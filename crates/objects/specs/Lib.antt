@@ -1,0 +1,3 @@
+-- The type of a live region as the code finds it, and what rests on its size alone.
+pub mod Homes
+pub mod Ends

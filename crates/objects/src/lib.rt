@@ -1,0 +1,261 @@
+// Objects of a state that nobody has tested: which frame's type a live region has, the size of its objects, the object around an
+// address, and the marks past a page's last place. The file's tables are handed over; nothing is asked of the state.
+ghost use mathlib.Core.Path.{_≡_};
+ghost use Prim.Native.Nat.{ℕ, _+_, _-_, _*_, _/_, _<_, _≤_};
+ghost use Rattle.rules.specs.Limits.{pages, pageBytes};
+ghost use Rattle.rules.specs.Flat.{size};
+ghost use Rattle.rules.specs.Decode.{moduleOf};
+ghost use Rattle.rules.specs.State.{frameMap};
+ghost use Rattle.runs.specs.Table.{Table};
+ghost use Rattle.stack.specs.Tells.{Tells};
+ghost use Rattle.stack.specs.Facts.{Known};
+ghost use Rattle.objects.specs.Homes.{lastOf, lastLocal, frameOf, termAt, regionTree, HomeIs, partAt, IsPart, objectAt};
+ghost use Rattle.objects.specs.Ends.{EndMark, EndsOk, AllEnds};
+use stack::regions::head;
+use stack::regions::region;
+use state::Machine;
+use walk::limits::CALLEES;
+
+// Where a region's type stands: 1 + the frame (0: the region is not live), and the term there.
+pub struct Home {
+    pub frame: u32,
+    pub term: usize,
+}
+
+// A part of the state: where it starts, and its size, 0 of an empty part.
+pub struct Area {
+    pub offset: usize,
+    pub size: usize,
+}
+
+// ---- where a region's type stands
+
+// 1 + the last of the n entries from a on that leads to r, or 0.
+fn local_of(s: &[u8], k: u32, a: u32, n: u32, r: u32) -> u32
+    requires { ⌜ (a < 256) × (n < 256) ⌝ }
+    ensures { λ j. ⌜ j ≡ lastOf (frameMap (now (s .entry)) k) a n r ⌝ }
+{
+    let mut j = n;
+    while 0 < j {
+        if region(s, k, a + (j - 1)) == r {
+            return j;
+        }
+        j -= 1;
+    }
+    0
+}
+
+// 1 + the last local region of frame k that is r, or 0.
+fn local_in(f: &[u8], starts: &[usize; CALLEES], functions: usize, s: &[u8], k: u32, r: u32) -> u32
+    requires { ⌜ Known (now f) (now starts) functions ⌝ }
+    ensures { λ j. ⌜ (j ≡ lastLocal (now (f .entry)) (now (s .entry)) k r) × (j < 256) ⌝ }
+{
+    let h = head(f, starts, functions, s, k);
+    let a = words::wide(h.a);
+    let n = words::wide(h.b);
+    local_of(s, k, a, n, r)
+}
+
+// 1 + the highest of the lowest n frames to which r is local, or 0.
+fn frame_of(f: &[u8], starts: &[usize; CALLEES], functions: usize, s: &[u8], n: u32, r: u32) -> u32
+    requires { ⌜ Known (now f) (now starts) functions ⌝ }
+    ensures { λ k. ⌜ k ≡ frameOf (now (f .entry)) (now (s .entry)) n r ⌝ }
+{
+    let mut k = n;
+    while 0 < k {
+        if 0 < local_in(f, starts, functions, s, k - 1, r) {
+            return k;
+        }
+        k -= 1;
+    }
+    0
+}
+
+// The term of region variable i of frame k's function.
+fn term_of(f: &[u8], starts: &[usize; CALLEES], functions: usize, s: &[u8], k: u32, i: u32) -> usize
+    requires { ⌜ Known (now f) (now starts) functions ⌝ }
+    ensures { λ t. ⌜ t ≡ termAt (now (f .entry)) (now (s .entry)) k i ⌝ }
+{
+    let g = words::wide(state::total::function(s, k));
+    let at = walk::tables::start_of(f, starts, g as usize);
+    let x = walk::file::record_at(f, at + 1);
+    walk::file::entry_of(x, i as usize)
+}
+
+// Of n frames.
+pub fn home_of(
+    f: &[u8],
+    starts: &[usize; CALLEES],
+    functions: usize,
+    s: &[u8],
+    n: u32,
+    r: u32,
+) -> Home
+    requires { ⌜ Known (now f) (now starts) functions ⌝ }
+    ensures { λ h. ⌜ HomeIs (now (f .entry)) (now (s .entry)) n r h ⌝ }
+{
+    let k = frame_of(f, starts, functions, s, n, r);
+    if k == 0 {
+        return Home { frame: k, term: 0 };
+    }
+    let i = local_in(f, starts, functions, s, k - 1, r);
+    let h = head(f, starts, functions, s, k - 1);
+    let a = words::wide(h.a);
+    let t = term_of(f, starts, functions, s, k - 1, a + (i - 1));
+    Home { frame: k, term: t }
+}
+
+// The size of the objects of region r, 0 where it is not live. (257 stands for no size.)
+pub fn size_of(
+    f: &[u8],
+    starts: &[usize; CALLEES],
+    functions: usize,
+    terms: usize,
+    structs: usize,
+    tab: &[u64],
+    s: &[u8],
+    n: u32,
+    r: u32,
+) -> usize
+    requires { ⌜ Known (now f) (now starts) functions ⌝ ∗ ⌜ Table (now f) terms structs (now tab) ⌝ }
+    ensures { λ z. ⌜ (z ≡ size (moduleOf (now (f .entry))) (regionTree (now (f .entry)) (now (s .entry)) n r)) × (z ≤ 257) ⌝ }
+{
+    let h = home_of(f, starts, functions, s, n, r);
+    let k = h.frame;
+    if k == 0 {
+        return 0;
+    }
+    let e = runs::extent_at(terms, h.term, tab, f, structs);
+    e.size
+}
+
+// ---- the reader
+
+// In page p, whose objects have this size: the object around byte x.
+fn object_in(p: u32, x: usize, size: usize) -> Area
+    requires { ⌜ (x < 256) × (size ≤ 257) ⌝ }
+    ensures { λ r. ⌜ IsPart r (partAt p x size) ⌝ }
+{
+    if size == 0 {
+        return Area { offset: 0, size: 0 };
+    }
+    let y = x / size * size;
+    if y + size <= Machine::PAGE_BYTES as usize {
+        let o = state::places::page_place(p);
+        return Area {
+            offset: o + y,
+            size,
+        };
+    }
+    Area { offset: 0, size: 0 }
+}
+
+// The whole object around address a, used or free.
+pub fn object(
+    f: &[u8],
+    starts: &[usize; CALLEES],
+    functions: usize,
+    terms: usize,
+    structs: usize,
+    tab: &[u64],
+    s: &[u8],
+    a: u32,
+) -> Area
+    requires { ⌜ Known (now f) (now starts) functions ⌝ ∗ ⌜ Table (now f) terms structs (now tab) ⌝ }
+    ensures { λ r. ⌜ IsPart r (objectAt (now (f .entry)) (now (s .entry)) a) ⌝ }
+{
+    let p = a / Machine::PAGE_BYTES;
+    let owner = words::wide(state::total::owner(s, p));
+    if owner == 0 {
+        return Area { offset: 0, size: 0 };
+    }
+    let n = words::wide(state::total::frames(s));
+    let size = size_of(f, starts, functions, terms, structs, tab, s, n, owner - 1);
+    object_in(p, (a % Machine::PAGE_BYTES) as usize, size)
+}
+
+// ---- marks past the last place
+
+fn end_mark(s: &[u8], p: u32, size: usize, j: u32) -> bool
+    requires { ⌜ (size ≤ 257) × (j < 256) ⌝ }
+    ensures { λ b. ⌜ Tells b (EndMark (now (s .entry)) p size j) ⌝ }
+{
+    let x = state::total::mark(s, p, j);
+    (size * (j as usize + 1) <= Machine::PAGE_BYTES as usize) | (x == 0)
+}
+
+fn end_marks(s: &[u8], p: u32, size: usize) -> bool
+    requires { ⌜ size ≤ 257 ⌝ }
+    ensures { λ b. ⌜ Tells b ((j : ℕ) → j < pageBytes → EndMark (now (s .entry)) p size j) ⌝ }
+{
+    let mut j = 0;
+    while j < Machine::PAGE_BYTES {
+        if !end_mark(s, p, size, j) {
+            return false;
+        }
+        j += 1;
+    }
+    true
+}
+
+fn page_ends(
+    f: &[u8],
+    starts: &[usize; CALLEES],
+    functions: usize,
+    terms: usize,
+    structs: usize,
+    tab: &[u64],
+    s: &[u8],
+    n: u32,
+    p: u32,
+) -> bool
+    requires { ⌜ Known (now f) (now starts) functions ⌝ ∗ ⌜ Table (now f) terms structs (now tab) ⌝ }
+    ensures { λ b. ⌜ Tells b (EndsOk (now (f .entry)) (now (s .entry)) n p) ⌝ }
+{
+    let owner = words::wide(state::total::owner(s, p));
+    if owner == 0 {
+        return true;
+    }
+    let size = size_of(f, starts, functions, terms, structs, tab, s, n, owner - 1);
+    end_marks(s, p, size)
+}
+
+fn all_ends(
+    f: &[u8],
+    starts: &[usize; CALLEES],
+    functions: usize,
+    terms: usize,
+    structs: usize,
+    tab: &[u64],
+    s: &[u8],
+    n: u32,
+) -> bool
+    requires { ⌜ Known (now f) (now starts) functions ⌝ ∗ ⌜ Table (now f) terms structs (now tab) ⌝ }
+    ensures { λ b. ⌜ Tells b ((p : ℕ) → p < pages → EndsOk (now (f .entry)) (now (s .entry)) n p) ⌝ }
+{
+    let mut p = 0;
+    while p < Machine::PAGES {
+        if !page_ends(f, starts, functions, terms, structs, tab, s, n, p) {
+            return false;
+        }
+        p += 1;
+    }
+    true
+}
+
+// "used marks beyond the last place of an owned page" are zero.
+pub fn ends_ok(
+    f: &[u8],
+    starts: &[usize; CALLEES],
+    functions: usize,
+    terms: usize,
+    structs: usize,
+    tab: &[u64],
+    s: &[u8],
+) -> bool
+    requires { ⌜ Known (now f) (now starts) functions ⌝ ∗ ⌜ Table (now f) terms structs (now tab) ⌝ }
+    ensures { λ b. ⌜ Tells b (AllEnds (now (f .entry)) (now (s .entry))) ⌝ }
+{
+    let n = words::wide(state::total::frames(s));
+    all_ends(f, starts, functions, terms, structs, tab, s, n)
+}

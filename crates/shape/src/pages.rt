@@ -1,0 +1,48 @@
+// "page 0 is unowned; owners are live; unowned pages have no used marks".
+ghost use mathlib.Core.Path.{_≡_};
+ghost use Prim.Native.Nat.{ℕ, _<_};
+ghost use Rattle.rules.specs.Limits.{pages};
+ghost use Rattle.stack.specs.Tells.{Tells};
+ghost use Rattle.stack.specs.Facts.{Known};
+ghost use Rattle.shape.specs.Pages.{PageOk, PagesOk};
+use crate::spare::zero;
+use stack::regions::not_live;
+use state::Machine;
+use walk::limits::CALLEES;
+
+// Of n frames. (A page without used marks has 32 zero bytes of them.)
+fn page_ok(f: &[u8], starts: &[usize; CALLEES], functions: usize, s: &[u8], n: u32, p: u32) -> bool
+    requires { ⌜ Known (now f) (now starts) functions ⌝ ∗ ⌜ p < pages ⌝ }
+    ensures { λ b. ⌜ Tells b (PageOk (now (f .entry)) (now (s .entry)) n p) ⌝ }
+{
+    let owner = words::wide(state::total::owner(s, p));
+    if owner == 0 {
+        let marks = state::places::marks_place(p);
+        return zero(s, marks, marks + Machine::MARK_BYTES);
+    }
+    !not_live(f, starts, functions, s, n, owner)
+}
+
+fn all_pages(f: &[u8], starts: &[usize; CALLEES], functions: usize, s: &[u8], n: u32) -> bool
+    requires { ⌜ Known (now f) (now starts) functions ⌝ }
+    ensures { λ b. ⌜ Tells b ((p : ℕ) → p < pages → PageOk (now (f .entry)) (now (s .entry)) n p) ⌝ }
+{
+    let mut p = 0;
+    while p < Machine::PAGES {
+        if !page_ok(f, starts, functions, s, n, p) {
+            return false;
+        }
+        p += 1;
+    }
+    true
+}
+
+pub fn pages_ok(f: &[u8], starts: &[usize; CALLEES], functions: usize, s: &[u8]) -> bool
+    requires { ⌜ Known (now f) (now starts) functions ⌝ }
+    ensures { λ b. ⌜ Tells b (PagesOk (now (f .entry)) (now (s .entry))) ⌝ }
+{
+    let n = words::wide(state::total::frames(s));
+    let lowest = state::total::owner(s, 0);
+    let all = all_pages(f, starts, functions, s, n);
+    (lowest == 0) & all
+}
