@@ -6,7 +6,7 @@ use Prim.Native.Nat.{ℕ, _+_, _<_, _≤_}
 use native.Mathlib.Decide.{ℕ-discrete}
 use lib.Dec.{ltb, eqb}
 use Rattle.words.specs.First.{allBelow}
-use Rattle.rules.specs.Decide.{does, decBoth, decAll, decImp}
+use Rattle.words.specs.Decide.{does, decBoth, decAll, decImp}
 use Rattle.rules.specs.Types.{int, decTree, decUses, decPrimitive}
 use Rattle.rules.specs.Module.{Function, Module, regions}
 use Rattle.rules.specs.WellTyped.{scopeOf, decFunction, decEntry}

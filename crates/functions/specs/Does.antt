@@ -9,7 +9,7 @@ use borrow.Author.Tests.{lt-ltb, le-ltb, le-leb, lt-leb, ltb-true, leb-true}
 use Rattle.words.specs.Choose.{bool-same, both, both-of}
 use Rattle.words.specs.First.{allBelow}
 use Rattle.words.specs.FirstLaws.{all-holds, all-from, all-broken, all-ended}
-use Rattle.rules.specs.Decide.{does, does-true, decImp, decAll}
+use Rattle.words.specs.Decide.{does, does-true, decImp, decAll}
 use Rattle.typing.specs.Tests.{true-does}
 
 -- a test that holds where the fact does is the decision's answer

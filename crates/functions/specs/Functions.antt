@@ -83,7 +83,7 @@ module _ (f : Bytes) (h : ℕ) where
   unfolding functionAt functionOf
   params-at = refl
 
-  pub length-at : functionAt f h .length ≡ instructionsOf (recordOf f h)
+  pub length-at : functionAt f h .codeLength ≡ instructionsOf (recordOf f h)
   unfolding functionAt functionOf
   length-at = refl
 

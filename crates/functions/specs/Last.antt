@@ -9,7 +9,7 @@ use lib.ListN.{getD}
 use borrow.Author.Tests.{eq-eqb, ne-eqb, lt-leb, le-leb}
 use Rattle.words.specs.Bytes.{Bytes}
 use Rattle.words.specs.Choose.{cond-split, split-eq, split-lt, neither-of, left-of, right-of}
-use Rattle.rules.specs.Decide.{does}
+use Rattle.words.specs.Decide.{does}
 use Rattle.rules.specs.File.{recordOf, parametersOf, Group, arithmetic, memory, control, groupOf, kindCall, firstMemory, firstControl}
 use Rattle.rules.specs.Module.{Module, Instruction, call}
 use Rattle.rules.specs.Decode.{callOf, arithmeticOf, memoryOf, controlOf, byGroup, instructionOf, codeOf, moduleOf, startOf, instructionAt}
@@ -70,10 +70,10 @@ unfolding instructionIn codeOf
 record-ends f r = instruction-ends (recordOf f r) (recordOf f (r + 1)) (recordOf f (getD (whole f .starts) (recordOf f r .b) 0) .a) (parametersOf (recordOf f (getD (whole f .starts) (recordOf f r .b) 0)))
 
 -- refusal 8's test of function g
-pub last-test : (f : Bytes) (g : ℕ) → ends (recordOf f (placeIn f (startOf f g) (functionAt f (startOf f g) .length - 1)) .kind) ≡ lastTest (moduleOf f) g
+pub last-test : (f : Bytes) (g : ℕ) → ends (recordOf f (placeIn f (startOf f g) (functionAt f (startOf f g) .codeLength - 1)) .kind) ≡ lastTest (moduleOf f) g
 unfolding lastTest
 last-test f g =
     let h = startOf f g in
-    sym (ap (λ F. isLast (F .code (F .length - 1))) (function-at f g)
-    ∙ ap isLast (code-at f h (functionAt f h .length - 1))
-    ∙ record-ends f (placeIn f h (functionAt f h .length - 1)))
+    sym (ap (λ F. isLast (F .code (F .codeLength - 1))) (function-at f g)
+    ∙ ap isLast (code-at f h (functionAt f h .codeLength - 1))
+    ∙ record-ends f (placeIn f h (functionAt f h .codeLength - 1)))

@@ -19,7 +19,7 @@ pub fn ends(kind: u8) -> bool
 // The record of the last instruction of the function with record 7 at h.
 pub fn last_place(f: &[u8], h: usize) -> usize
     requires { ⌜ h < placeLimit ⌝ }
-    ensures { λ r. ⌜ r ≡ placeIn (now (f .entry)) h (functionAt (now (f .entry)) h .length - 1) ⌝ }
+    ensures { λ r. ⌜ r ≡ placeIn (now (f .entry)) h (functionAt (now (f .entry)) h .codeLength - 1) ⌝ }
 {
     let x = walk::file::record_at(f, h);
     let count = walk::file::instructions_of(x);

@@ -11,7 +11,7 @@ use lib.ListN.{length, getD}
 use borrow.Author.Tests.{ltb-true, eqb-true}
 use Rattle.words.specs.Bytes.{Bytes}
 use Rattle.words.specs.Choose.{both}
-use Rattle.rules.specs.Decide.{does, Each, none, more}
+use Rattle.words.specs.Decide.{does, Each, none, more}
 use Rattle.rules.specs.Types.{variable, Variable, region, Tree, int, ptr, arr, struct, form, inner, regionOf, sub, arg, decTree, Uses, in-int, in-ptr, in-arr, in-struct}
 use Rattle.rules.specs.Module.{Module, Function, regions}
 use Rattle.rules.specs.Flat.{flat, decRun, decSame}

@@ -8,7 +8,7 @@ use native.Mathlib.Numerals.{add-one}
 use native.Mathlib.Omega.{arith}
 use Rattle.words.specs.Bytes.{Bytes, listFrom, listOf}
 use Rattle.words.specs.First.{first}
-use Rattle.rules.specs.Decide.{does}
+use Rattle.words.specs.Decide.{does}
 use Rattle.rules.specs.Module.{Function}
 use Rattle.rules.specs.Stages.{Stage, failure}
 use Rattle.rules.specs.Decision.{decTyped}
@@ -28,20 +28,20 @@ test-at f h i r e = ap (λ (r : ℕ). does (decTyped (moduleOf f) (functionAt f 
 unfoldable pub typedFrom : Bytes → ℕ → ℕ → Outcome
 typedFrom f g n = outcome (listFrom (instructionStage f (moduleOf f)) g n)
 
-module _ (f : Bytes) (g n h i place : ℕ) (at : h ≡ startOf f g) (is : i ≡ first (functionAt f h .length) (instructionTest (moduleOf f) (functionAt f h))) where
-  stage-is : first (functionAt f h .length) (instructionTest (moduleOf f) (functionAt f h)) ≡ failure (instructionStage f (moduleOf f) g)
+module _ (f : Bytes) (g n h i place : ℕ) (at : h ≡ startOf f g) (is : i ≡ first (functionAt f h .codeLength) (instructionTest (moduleOf f) (functionAt f h))) where
+  stage-is : first (functionAt f h .codeLength) (instructionTest (moduleOf f) (functionAt f h)) ≡ failure (instructionStage f (moduleOf f) g)
   unfolding instructionStage
-  stage-is = ap (λ (F : Function). first (F .length) (instructionTest (moduleOf f) F)) (ap (functionAt f) at ∙ sym (function-at f g))
+  stage-is = ap (λ (F : Function). first (F .codeLength) (instructionTest (moduleOf f) F)) (ap (functionAt f) at ∙ sym (function-at f g))
 
-  count-is : functionAt f h .length ≡ instructionStage f (moduleOf f) g .count
+  count-is : functionAt f h .codeLength ≡ instructionStage f (moduleOf f) g .count
   unfolding instructionStage
-  count-is = ap (λ (F : Function). F .length) (ap (functionAt f) at ∙ sym (function-at f g))
+  count-is = ap (λ (F : Function). F .codeLength) (ap (functionAt f) at ∙ sym (function-at f g))
 
-  pub typed-passes : functionAt f h .length ≤ i → typedFrom f g (suc n) ≡ typedFrom f (suc g) n
+  pub typed-passes : functionAt f h .codeLength ≤ i → typedFrom f g (suc n) ≡ typedFrom f (suc g) n
   unfolding typedFrom listFrom
   typed-passes l = passes (instructionStage f (moduleOf f) g) (listFrom (instructionStage f (moduleOf f)) (suc g) n) (is ∙ stage-is) (omega (arith, count-is))
 
-  pub typed-refuses : i < functionAt f h .length → place ≡ placeIn f h i → typedFrom f g (suc n) ≡ Refused 7 place
+  pub typed-refuses : i < functionAt f h .codeLength → place ≡ placeIn f h i → typedFrom f g (suc n) ≡ Refused 7 place
   unfolding typedFrom listFrom
   typed-refuses l e = refuses (instructionStage f (moduleOf f) g) (listFrom (instructionStage f (moduleOf f)) (suc g) n) (is ∙ stage-is) (omega (arith, count-is)) ∙ refusal-is
     where

@@ -2,7 +2,7 @@
 ghost use mathlib.Core.Path.{_≡_};
 ghost use Prim.Native.Nat.{_<_, _^_};
 ghost use Rattle.words.specs.First.{first};
-ghost use Rattle.rules.specs.Decide.{does};
+ghost use Rattle.words.specs.Decide.{does};
 ghost use Rattle.rules.specs.Decision.{decTyped};
 ghost use Rattle.rules.specs.Decode.{moduleOf};
 ghost use Rattle.rules.specs.Verdict.{instructionTest};
@@ -51,7 +51,7 @@ pub fn first_instruction(
     h: usize,
 ) -> Found
     requires { ⌜ Known (now f) n k c (now starts) ⌝ ∗ ⌜ Table (now f) n k (now tab) ⌝ ∗ ⌜ Tight (functionAt (now f) h) ⌝ ∗ ⌜ h < placeLimit ⌝ }
-    ensures { λ r. do let F = functionAt (now (f .entry)) h in ⌜ (r .index ≡ first (F .length) (instructionTest (moduleOf (now (f .entry))) F)) × (r .index < F .length → r .place ≡ placeIn (now (f .entry)) h (r .index)) ⌝ }
+    ensures { λ r. do let F = functionAt (now (f .entry)) h in ⌜ (r .index ≡ first (F .codeLength) (instructionTest (moduleOf (now (f .entry))) F)) × (r .index < F .codeLength → r .place ≡ placeIn (now (f .entry)) h (r .index)) ⌝ }
 {
     let x = walk::file::record_at(f, h);
     let count = walk::file::instructions_of(x);

@@ -14,7 +14,7 @@ use Rattle.words.specs.ByteLaws.{length-listOf, getD-listOf}
 use Rattle.words.specs.Choose.{lt-reads, lt-or-le}
 use Rattle.words.specs.First.{allBelow}
 use Rattle.words.specs.FirstLaws.{all-as}
-use Rattle.rules.specs.Decide.{does}
+use Rattle.words.specs.Decide.{does}
 use Rattle.rules.specs.File.{recordOf, byteOfD, entryOf, parametersOf}
 use Rattle.rules.specs.Types.{variable, Variable, Region, region, nowhere, Tree, sub, arg, decTree}
 use Rattle.rules.specs.Module.{Module, Function, regions, argument, Instruction, call}

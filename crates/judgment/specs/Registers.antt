@@ -8,7 +8,7 @@ use native.Mathlib.Omega.{arith}
 use lib.Dec.{ltb, leb, eqb}
 use borrow.Author.Tests.{eqb-true}
 use Rattle.words.specs.Choose.{and-reads, or-reads, lt-reads, eq-reads}
-use Rattle.rules.specs.Decide.{does, does-true}
+use Rattle.words.specs.Decide.{does, does-true}
 use Rattle.rules.specs.Types.{variable, Variable, Region, region, Tree, int, ptr, arr, struct, form, numberOf, inner, regionOf, decTree}
 use Rattle.rules.specs.Module.{Function, regions}
 use Rattle.rules.specs.Typing.{_⊢_∶_}

@@ -5,7 +5,7 @@ use mathlib.Core.Logic.{_⊎_, inl, inr, _↔_}
 use Prim.Native.Nat.{ℕ, _^_, _<_, _≤_}
 use lib.Dec.{ltb, leb, eqb}
 use Rattle.words.specs.Choose.{lt-reads, le-reads, eq-reads}
-use Rattle.rules.specs.Decide.{does}
+use Rattle.words.specs.Decide.{does}
 use Rattle.rules.specs.Types.{variable, Variable, Tree, int, ptr, arr, form, numberOf, inner, regionOf, decTree}
 use Rattle.rules.specs.Module.{Module, Function, regions, Instruction, constant, copy, operate, zeroExtend, signExtend, address, check, field, index, load, store, new, free, input, output, jump, branch, return}
 use Rattle.rules.specs.Flat.{Run, Same, decRun, decSame, flat}
@@ -198,16 +198,16 @@ module _ (m : Module) (F : Function) where
       back (t-output p) = p
 
   -- "31 jump to d. 32 to d if integer a is not zero, else on"
-  pub jump-test : (d : ℕ) → ltb d (F .length) ≡ does (decTyped m F (jump d))
-  jump-test d = decided (decTyped m F (jump d)) (lt-reads d (F .length)) t-jump back
+  pub jump-test : (d : ℕ) → ltb d (F .codeLength) ≡ does (decTyped m F (jump d))
+  jump-test d = decided (decTyped m F (jump d)) (lt-reads d (F .codeLength)) t-jump back
     where
-      back : Typed m F (jump d) → d < F .length
+      back : Typed m F (jump d) → d < F .codeLength
       back (t-jump p) = p
 
-  pub branch-test : (a d : ℕ) → isInteger F a && ltb d (F .length) ≡ does (decTyped m F (branch a d))
-  branch-test a d = decided (decTyped m F (branch a d)) (both-reads (integer-reads F a) (lt-reads d (F .length))) (λ h. t-branch {w = h .0 .0} (h .0 .1) (h .1)) back
+  pub branch-test : (a d : ℕ) → isInteger F a && ltb d (F .codeLength) ≡ does (decTyped m F (branch a d))
+  branch-test a d = decided (decTyped m F (branch a d)) (both-reads (integer-reads F a) (lt-reads d (F .codeLength))) (λ h. t-branch {w = h .0 .0} (h .0 .1) (h .1)) back
     where
-      back : Typed m F (branch a d) → ((w : ℕ) × (F ⊢ a ∶ int w)) × (d < F .length)
+      back : Typed m F (branch a d) → ((w : ℕ) × (F ⊢ a ∶ int w)) × (d < F .codeLength)
       back (t-branch {w = w} p q) = ((w, p), q)
 
   -- "34 returns a, of the return term"

@@ -2,7 +2,7 @@
 ghost use mathlib.Core.Path.{_≡_};
 ghost use Prim.Native.Nat.{_<_, _^_};
 ghost use lib.Dec.{ltb};
-ghost use Rattle.rules.specs.Decide.{does};
+ghost use Rattle.words.specs.Decide.{does};
 ghost use Rattle.rules.specs.Module.{constant, copy, operate, zeroExtend, signExtend, address, check};
 ghost use Rattle.rules.specs.Decision.{decTyped};
 ghost use Rattle.rules.specs.Decode.{moduleOf, arithmeticOf};

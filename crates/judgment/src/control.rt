@@ -2,7 +2,7 @@
 ghost use mathlib.Core.Path.{_≡_};
 ghost use Prim.Native.Nat.{_<_, _^_};
 ghost use lib.Dec.{ltb};
-ghost use Rattle.rules.specs.Decide.{does};
+ghost use Rattle.words.specs.Decide.{does};
 ghost use Rattle.rules.specs.File.{recordOf};
 ghost use Rattle.rules.specs.Module.{input, output, jump, branch, return};
 ghost use Rattle.rules.specs.Decision.{decTyped};
@@ -35,7 +35,7 @@ pub fn output(f: &[u8], n: usize, h: usize, b: usize) -> bool
 
 // d is an instruction.
 fn is_target(f: &[u8], h: usize, d: u32) -> bool
-    ensures { λ s. ⌜ s ≡ ltb d (functionAt (now (f .entry)) h .length) ⌝ }
+    ensures { λ s. ⌜ s ≡ ltb d (functionAt (now (f .entry)) h .codeLength) ⌝ }
 {
     let x = walk::file::record_at(f, h);
     let count = walk::file::instructions_of(x);

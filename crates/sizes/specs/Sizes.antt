@@ -12,7 +12,7 @@ use Rattle.words.specs.Bytes.{Bytes, listFrom, listOf}
 use Rattle.words.specs.ByteLaws.{length-listOf}
 use Rattle.words.specs.First.{allBelow}
 use Rattle.words.specs.FirstLaws.{all-holds, all-from}
-use Rattle.rules.specs.Decide.{does, does-true, decBoth, mapDec, Each, none, more, decEach}
+use Rattle.words.specs.Decide.{does, does-true, decBoth, mapDec, Each, none, more, decEach}
 use Rattle.rules.specs.Limits.{sizeLimit}
 use Rattle.rules.specs.File.{recordOf, entryOf}
 use Rattle.rules.specs.Types.{variable, region, Tree, Uses, decUses}

@@ -3,7 +3,7 @@ use mathlib.Core.Path.{_≡_, refl, sym, ap, ap₂, _∙_}
 use denote.Ref.{now}
 use Prim.Native.Nat.{ℕ}
 use Rattle.rules.specs.Decode.{structStart, moduleOf}
-use Rattle.rules.specs.Decide.{does}
+use Rattle.words.specs.Decide.{does}
 use Rattle.rules.specs.Types.{decUses}
 use Rattle.sizes.specs.Sizes.{fieldFits}
 use borrow.Author.Needs.{needs}

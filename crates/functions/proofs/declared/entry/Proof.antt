@@ -9,7 +9,7 @@ use Rattle.functions.specs.Functions.{functionAt}
 use Rattle.functions.specs.Declared.{parametersFit, entry-fits}
 use Rattle.rules.specs.Decode.{moduleOf}
 use Rattle.rules.specs.File.{returnOf}
-use Rattle.rules.specs.Decide.{does}
+use Rattle.words.specs.Decide.{does}
 use Rattle.rules.specs.Types.{int, decTree}
 use borrow.Author.Needs.{needs}
 use Rattle.functions.proofs.declared.entry.Statement.{statement}

@@ -3,7 +3,7 @@ use mathlib.Core.Path.{_≡_, refl, sym, ap, ap₂, _∙_}
 use denote.Ref.{now}
 use Rattle.functions.specs.Declared.{parameterFits, parameter-fits}
 use Rattle.rules.specs.Decode.{moduleOf}
-use Rattle.rules.specs.Decide.{does}
+use Rattle.words.specs.Decide.{does}
 use Rattle.rules.specs.Types.{int, decTree}
 use Prim.Native.Nat.{ℕ}
 use borrow.Author.Needs.{needs}

@@ -4,7 +4,7 @@ use denote.Ref.{now}
 use Rattle.functions.specs.Functions.{scopeIn, regionTerm}
 use Rattle.functions.specs.Declared.{regionFits, region-fits}
 use Rattle.rules.specs.Decode.{moduleOf}
-use Rattle.rules.specs.Decide.{does}
+use Rattle.words.specs.Decide.{does}
 use Rattle.rules.specs.Types.{decUses}
 use Rattle.rules.specs.declared.Record.{Record}
 use Prim.Native.Nat.{ℕ}

@@ -7,7 +7,7 @@ use Rattle.functions.specs.Functions.{scopeIn, registerTerm}
 use Rattle.functions.specs.Declared.{registerFits, register-fits}
 use Rattle.rules.specs.Decode.{moduleOf}
 use Rattle.rules.specs.File.{parametersOf}
-use Rattle.rules.specs.Decide.{does}
+use Rattle.words.specs.Decide.{does}
 use Rattle.rules.specs.Types.{decUses, decPrimitive}
 use Rattle.rules.specs.declared.Record.{Record}
 use Prim.Native.Nat.{ℕ}

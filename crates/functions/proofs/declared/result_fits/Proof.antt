@@ -6,7 +6,7 @@ use mathlib.Core.Bool.{_&&_}
 use Rattle.functions.specs.Declared.{resultFits, result-fits}
 use Rattle.rules.specs.Decode.{moduleOf}
 use Rattle.rules.specs.File.{returnOf}
-use Rattle.rules.specs.Decide.{does}
+use Rattle.words.specs.Decide.{does}
 use Rattle.rules.specs.Types.{decUses, decPrimitive}
 use Rattle.rules.specs.declared.Record.{Record}
 use Prim.Native.Nat.{ℕ}

@@ -20,7 +20,7 @@ ends-requires : tie.Need-ends-requires
 ends-requires c κs = search needs
 
 returns : tie.Need-returns
-returns c = let a = c .before .before .before .before .args in c .ends .ensures ∙ ap (λ (x : Record). ends (x .kind)) (c .before .record-at .ensures) ∙ ap (λ (r : ℕ). ends (recordOf (now (a .f)) r .kind)) (c .before .before .last-place .ensures) ∙ ap (λ (h : ℕ). ends (recordOf (now (a .f)) (placeIn (now (a .f)) h (functionAt (now (a .f)) h .length - 1)) .kind)) (c .before .before .before .before .pre .1) ∙ last-test (now (a .f)) (a .g)
+returns c = let a = c .before .before .before .before .args in c .ends .ensures ∙ ap (λ (x : Record). ends (x .kind)) (c .before .record-at .ensures) ∙ ap (λ (r : ℕ). ends (recordOf (now (a .f)) r .kind)) (c .before .before .last-place .ensures) ∙ ap (λ (h : ℕ). ends (recordOf (now (a .f)) (placeIn (now (a .f)) h (functionAt (now (a .f)) h .codeLength - 1)) .kind)) (c .before .before .before .before .pre .1) ∙ last-test (now (a .f)) (a .g)
 
 pub last-fits-spec : {M : Type 1} → statement M
 last-fits-spec = tie.close (tie.spec last-place-requires record-at-requires ends-requires returns)

@@ -4,7 +4,7 @@ use Prim.Native.Nat.{ℕ, _<_, _≤_, _-_}
 use denote.Ref.{now}
 use mathlib.Core.Bool.{Bool, true, false, _&&_, _||_}
 use lib.Dec.{ltb, leb, eqb}
-use Rattle.rules.specs.Decide.{does}
+use Rattle.words.specs.Decide.{does}
 use Rattle.rules.specs.Decode.{moduleOf}
 use Rattle.functions.specs.Functions.{functionAt}
 use Rattle.rules.specs.Types.{variable, Tree, form, numberOf, regionOf, inner, int, sub, decTree, Variable}
@@ -60,10 +60,10 @@ loop-again : tie.Need-loop-again Inv-loop μ-loop
 loop-again c = let a = c .before .before .before .before .before .before .before .before .before .before .args in let f = now (a .f) in let pl = place-found f (a .h) (c .before .before .before .before .before .before .instructions-of .result) (c .before .before .before .before .loop .i) (c .before .before .before .before .loop .r) (c .before .before .before .before .loop .i) (c .before .before .before .before .before .before .instructions-of .ensures .0 ∙ ap (λ (x : Record). instructionsOf x) (c .before .before .before .before .before .before .before .record-at .ensures)) (c .before .before .before .loop-test .taken) (c .before .before .before .before .loop .inv .1) refl in (omega arith, c .after .ensures ∙ place-more f (a .h) _ _ (c .before .before .before .before .loop .inv .1), below-more _ _ (c .before .before .before .before .loop .inv .2) (sym (test-at f (a .h) (c .before .before .before .before .loop .i) (c .before .before .before .before .loop .r) pl) ∙ cc))
 
 returns : tie.Need-returns Inv-loop μ-loop
-returns c = let a = c .before .before .before .before .before .before .before .before .before .args in let f = now (a .f) in let F = functionAt f (a .h) in let n = (c .before .before .before .before .before .instructions-of .ensures .0 ∙ ap (λ (x : Record). instructionsOf x) (c .before .before .before .before .before .before .record-at .ensures)) ∙ sym (length-at f (a .h)) in let pl = place-found f (a .h) (c .before .before .before .before .before .instructions-of .result) (c .before .before .before .loop .i) (c .before .before .before .loop .r) (c .before .before .before .loop .i) (c .before .before .before .before .before .instructions-of .ensures .0 ∙ ap (λ (x : Record). instructionsOf x) (c .before .before .before .before .before .before .record-at .ensures)) (c .before .before .loop-test .taken) (c .before .before .before .loop .inv .1) refl in (first-found (F .length) (instructionTest (moduleOf f) F) (c .before .before .before .loop .i) (c .before .before .before .loop .inv .2) (omega (arith, n, c .before .before .loop-test .taken)) (sym (test-at f (a .h) (c .before .before .before .loop .i) (c .before .before .before .loop .r) pl) ∙ cc), λ l. pl)
+returns c = let a = c .before .before .before .before .before .before .before .before .before .args in let f = now (a .f) in let F = functionAt f (a .h) in let n = (c .before .before .before .before .before .instructions-of .ensures .0 ∙ ap (λ (x : Record). instructionsOf x) (c .before .before .before .before .before .before .record-at .ensures)) ∙ sym (length-at f (a .h)) in let pl = place-found f (a .h) (c .before .before .before .before .before .instructions-of .result) (c .before .before .before .loop .i) (c .before .before .before .loop .r) (c .before .before .before .loop .i) (c .before .before .before .before .before .instructions-of .ensures .0 ∙ ap (λ (x : Record). instructionsOf x) (c .before .before .before .before .before .before .record-at .ensures)) (c .before .before .loop-test .taken) (c .before .before .before .loop .inv .1) refl in (first-found (F .codeLength) (instructionTest (moduleOf f) F) (c .before .before .before .loop .i) (c .before .before .before .loop .inv .2) (omega (arith, n, c .before .before .loop-test .taken)) (sym (test-at f (a .h) (c .before .before .before .loop .i) (c .before .before .before .loop .r) pl) ∙ cc), λ l. pl)
 
 returns-2 : tie.Need-returns-2 Inv-loop μ-loop
-returns-2 c = let a = c .before .before .before .before .before .before .before .args in let f = now (a .f) in let F = functionAt f (a .h) in let n = (c .before .before .before .instructions-of .ensures .0 ∙ ap (λ (x : Record). instructionsOf x) (c .before .before .before .before .record-at .ensures)) ∙ sym (length-at f (a .h)) in (n ∙ sym (first-none (F .length) (instructionTest (moduleOf f) F) (λ j l. c .before .loop .inv .2 j (omega (arith, n, c .loop-test .left)))), λ l. absurd (omega (arith, n)))
+returns-2 c = let a = c .before .before .before .before .before .before .before .args in let f = now (a .f) in let F = functionAt f (a .h) in let n = (c .before .before .before .instructions-of .ensures .0 ∙ ap (λ (x : Record). instructionsOf x) (c .before .before .before .before .record-at .ensures)) ∙ sym (length-at f (a .h)) in (n ∙ sym (first-none (F .codeLength) (instructionTest (moduleOf f) F) (λ j l. c .before .loop .inv .2 j (omega (arith, n, c .loop-test .left)))), λ l. absurd (omega (arith, n)))
 
 pub first-instruction-spec : {M : Type 1} → statement M
 first-instruction-spec =

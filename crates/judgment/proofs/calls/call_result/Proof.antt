@@ -4,7 +4,7 @@ use Prim.Native.Nat.{ℕ}
 use denote.Ref.{now}
 use Rattle.rules.specs.declared.Record.{Record}
 use mathlib.Core.Bool.{Bool, true, false, _&&_, _||_}
-use Rattle.rules.specs.Decide.{does}
+use Rattle.words.specs.Decide.{does}
 use Rattle.rules.specs.Types.{variable, Tree, form, numberOf, regionOf, inner, int, sub, decTree}
 use Rattle.rules.specs.Decode.{moduleOf}
 use Rattle.functions.specs.Functions.{functionAt, result-at}

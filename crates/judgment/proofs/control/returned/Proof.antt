@@ -8,7 +8,7 @@ use Rattle.rules.specs.Decode.{moduleOf}
 use Rattle.functions.specs.Functions.{functionAt}
 use Rattle.judgment.specs.Rules.{return-test}
 use Rattle.rules.specs.declared.Record.{Record}
-use Rattle.rules.specs.Decide.{does}
+use Rattle.words.specs.Decide.{does}
 use Rattle.rules.specs.Types.{variable, Tree, form, numberOf, regionOf, inner, int, sub, decTree}
 use Rattle.judgment.specs.Registers.{register-is}
 use Rattle.functions.specs.Functions.{result-at}
