@@ -58,10 +58,10 @@ module _ (f : Bytes) where
 
   -- ---- the cases of the code
 
-  pub last-place-is : (h g : ℕ) → h ≡ startOf f g → placeIn f h (functionAt f h .length - 1) ≡ instructionAt f g (moduleOf f .function g .length - 1)
+  pub last-place-is : (h g : ℕ) → h ≡ startOf f g → placeIn f h (functionAt f h .codeLength - 1) ≡ instructionAt f g (moduleOf f .function g .codeLength - 1)
   last-place-is h g e =
-      ap (λ (h : ℕ). placeIn f h (functionAt f h .length - 1)) e ∙ sym (place-in f g (functionAt f (startOf f g) .length - 1))
-      ∙ ap (λ (F : Function). instructionAt f g (F .length - 1)) (sym (function-at f g))
+      ap (λ (h : ℕ). placeIn f h (functionAt f h .codeLength - 1)) e ∙ sym (place-in f g (functionAt f (startOf f g) .codeLength - 1))
+      ∙ ap (λ (F : Function). instructionAt f g (F .codeLength - 1)) (sym (function-at f g))
 
   functions-are : moduleOf f .functions ≡ whole f .walk .functions
   unfolding moduleOf

@@ -42,7 +42,7 @@ first-instruction-requires : tie.Need-first-instruction-requires Inv-loop μ-loo
 first-instruction-requires c κs = let a = c .before .before .before .before .before .before .before .args in let f = now (a .f) in let p = c .before .before .before .before .before .before .before .pre in (p .0, (p .1 .0, (subst (λ (h : ℕ). Tight (functionAt f h)) (sym (c .before .before .start-of .ensures)) (p .1 .1 (c .before .before .before .before .loop .g) (c .before .before .before .loop-test .taken)), omega (arith, c .before .before .start-of .ensures, start-small f (p .0 .short) (c .before .before .before .before .loop .g)))))
 
 returns : tie.Need-returns Inv-loop μ-loop
-returns c = let a = c .before .before .before .before .before .before .before .before .before .args in let f = now (a .f) in let g = c .before .before .before .before .before .before .loop .g in let n = c .before .before .instructions-of .ensures .0 ∙ ap (λ (x : Record). instructionsOf x) (c .before .before .before .record-at .ensures) ∙ sym (length-at f (c .before .before .before .before .start-of .result)) in let l = c .before .first-instruction .ensures in let i : c .before .first-instruction .result .index < functionAt f (c .before .before .before .before .start-of .result) .length = omega (arith, n, c .if1 .taken) in let e : suc (a .c - (g + 1)) ≡ a .c - g = omega (arith, c .before .before .before .before .before .loop-test .taken) in sym (typed-refuses f g (a .c - (g + 1)) (c .before .before .before .before .start-of .result) (c .before .first-instruction .result .index) (c .before .first-instruction .result .place) (c .before .before .before .before .start-of .ensures) (l .0) i (l .1 i)) ∙ ap (typedFrom f g) e ∙ c .before .before .before .before .before .before .loop .inv .1
+returns c = let a = c .before .before .before .before .before .before .before .before .before .args in let f = now (a .f) in let g = c .before .before .before .before .before .before .loop .g in let n = c .before .before .instructions-of .ensures .0 ∙ ap (λ (x : Record). instructionsOf x) (c .before .before .before .record-at .ensures) ∙ sym (length-at f (c .before .before .before .before .start-of .result)) in let l = c .before .first-instruction .ensures in let i : c .before .first-instruction .result .index < functionAt f (c .before .before .before .before .start-of .result) .codeLength = omega (arith, n, c .if1 .taken) in let e : suc (a .c - (g + 1)) ≡ a .c - g = omega (arith, c .before .before .before .before .before .loop-test .taken) in sym (typed-refuses f g (a .c - (g + 1)) (c .before .before .before .before .start-of .result) (c .before .first-instruction .result .index) (c .before .first-instruction .result .place) (c .before .before .before .before .start-of .ensures) (l .0) i (l .1 i)) ∙ ap (typedFrom f g) e ∙ c .before .before .before .before .before .before .loop .inv .1
 
 add-g : tie.Need-add-g Inv-loop μ-loop
 add-g c = search needs
