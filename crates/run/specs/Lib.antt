@@ -1,3 +1,4 @@
 -- What a step and a run leave, and the laws that the loop needs.
 pub mod Stepped
 pub mod Turns
+pub mod Outcomes

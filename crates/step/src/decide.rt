@@ -82,14 +82,14 @@ fn arithmetic(w: u64, x: u64, s: &[u8], k: u32) -> Effect
 
 // ---- 23 to 28
 
-fn field(a: u32, b: u32, distance: u32) -> Effect
-    requires { ⌜ (b ≢ 0 → b + distance < 256 ^ 4) ⌝ }
-    ensures { λ r. ⌜ Means r (notZero b (assign a (b + distance))) ⌝ }
+fn field(a: u32, base: u32, distance: u32) -> Effect
+    requires { ⌜ (base ≢ 0 → base + distance < 256 ^ 4) ⌝ }
+    ensures { λ r. ⌜ Means r (notZero base (assign a (base + distance))) ⌝ }
 {
-    if b == 0 {
+    if base == 0 {
         return Effect::Stop(31);
     }
-    Effect::Set(a, b + distance)
+    Effect::Set(a, base + distance)
 }
 
 fn index(a: u32, b: u32, c: u32, size: u32, count: u64) -> Effect
@@ -97,9 +97,8 @@ fn index(a: u32, b: u32, c: u32, size: u32, count: u64) -> Effect
     ensures { λ r. ⌜ Means r (notZero b (cond (ltb c count) (assign a (b + c * size)) (stop 33))) ⌝ }
 {
     if b == 0 {
-        return Effect::Stop(31);
-    }
-    if (c as u64) < count {
+        Effect::Stop(31)
+    } else if (c as u64) < count {
         Effect::Set(a, b + c * size)
     } else {
         Effect::Stop(33)
