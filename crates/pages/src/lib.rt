@@ -2,16 +2,16 @@
 // object writes. The state is trusted: nothing is tested that an accepted module and a tested state guarantee.
 ghost use mathlib.Core.Path.{_≡_};
 ghost use mathlib.Core.List.{[], _∷_};
-ghost use Prim.Native.Nat.{ℕ, suc, _<_, _≤_};
+ghost use Prim.Native.Nat.{suc, _<_, _≤_};
 ghost use lib.ListN.{length};
 ghost use Rattle.rules.specs.Limits.{stateBytes, pages, pageBytes, liveRegions, markBytes};
 ghost use Rattle.rules.specs.State.{view, pageOwner, pageMark, written, putOwner, putMark, clearPage};
 ghost use Rattle.rules.specs.Heap.{placesInPage};
 ghost use Rattle.rules.specs.Step.{unownedPage};
 ghost use Rattle.state.specs.Marks.{lowestZero};
-ghost use Rattle.pages.specs.Search.{lowestPlace, placeFor, Found, allocateFrom};
+ghost use Rattle.pages.specs.Search.{lowestPlace, placeFor, Found};
 ghost use Rattle.pages.specs.Places.{openByte};
-ghost use Rattle.pages.specs.Meaning.{chosenEffect, Within};
+ghost use Rattle.pages.specs.Meaning.{chosen, Within};
 use state::LiveRegion;
 use state::Machine;
 use state::fields::clear_mark;
@@ -133,11 +133,11 @@ pub fn unowned_page(s: &[u8], low: u32, past: u32) -> u32
     q
 }
 
-// What a new object of region r takes, n places to a page. Pages below low have no room for it, pages below free are owned: where that
-// is so, this is rules' `allocate` (allocate-hint); from the first page on it always is (allocate-plain).
+// What a new object of region r takes, n places to a page. For objects of a size with n places it is rules' `allocate` (chosen-effect) where
+// pages below low have no room for it and pages below free are owned (allocate-hint), so always from the first page on (allocate-plain).
 pub fn allocate(s: &[u8], low: u32, free: u32, past: u32, r: LiveRegion, n: u32) -> Chosen
     requires { ⌜ (length (now s) ≡ stateBytes) × (low ≤ past) × (free ≤ past) × (past ≤ pages) × (n ≤ pageBytes) ⌝ }
-    ensures { λ c. ⌜ Within past n c × ((size a : ℕ) → n ≡ placesInPage size → chosenEffect (r .0) size a c ≡ allocateFrom (view (now (s .entry)) .owner) (view (now (s .entry)) .mark) low free past (r .0) size a) ⌝ }
+    ensures { λ c. ⌜ (c ≡ chosen (view (now (s .entry)) .owner) (view (now (s .entry)) .mark) low free past (r .0) n) × Within past n c ⌝ }
 {
     let x = find_room(s, low, past, r, n);
     let p = x.0;

@@ -1,5 +1,5 @@
 -- What refusals 1 to 4 say of a file, with its tables: whoever goes on with refusals 5 to 8 goes on from here. Assumes nothing.
-use mathlib.Core.Path.{_≡_, refl, sym, ap, _∙_}
+use mathlib.Core.Path.{_≡_, refl, _∙_}
 use Prim.Native.Nat.{ℕ}
 use mathlib.Core.Bool.{true}
 use mathlib.Core.List.{[], _∷_}
@@ -11,7 +11,6 @@ use Rattle.typing.specs.Stages.{AllPass}
 use Rattle.typing.specs.Walk.{Fits}
 use native.Mathlib.Omega.{arith}
 use Rattle.rules.specs.Verdict.{recordRules, moduleRules, verdictOf}
-use Rattle.rules.specs.declared.Verdict.{Verdict}
 use Rattle.walk.specs.Tables.{tablesOf, noTables}
 use Rattle.walk.specs.declared.tables.Tables.{Tables}
 use Rattle.records.specs.declared.Checked.{Checked}

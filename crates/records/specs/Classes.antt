@@ -1,17 +1,21 @@
 -- How the code holds the classes of a kind's operands: an octal digit each, a's the lowest. The rule of the whole table is one test that
 -- antt computes; the array of the code is the definition's table with the digits put together. Assumes nothing.
-use mathlib.Core.Path.{_≡_, refl, sym, _∙_}
-use mathlib.Core.Bool.{Bool, true, false, _&&_}
+use mathlib.Core.Path.{_≡_, refl}
+use mathlib.Core.Bool.{Bool, true, _&&_}
 use mathlib.Core.List.{List, [], _∷_}
 use Prim.Native.Nat.{ℕ, _+_, _-_, _*_, _/_, _%_, _<_, _≤_}
 use native.Mathlib.Omega.{arith}
-use lib.Dec.{ltb, eqb, T}
+use lib.Dec.{eqb, T}
 use lib.ListN.{length, getD, List·getD-eq-default}
-use borrow.Author.Tests.{ltb-true, eqb-true}
+use borrow.Author.Tests.{eqb-true}
 use Rattle.words.specs.Choose.{both}
 use Rattle.rules.specs.File.{firstArithmetic}
 use Rattle.rules.specs.Operands.{Classes, row, unused, operandTable, classesOf}
 use Rattle.records.specs.Table.{every, holds}
+
+-- the rows of the table: kinds 16 to 34
+abbrev pub kinds : ℕ
+kinds = 19
 
 -- n has the classes k as its digits
 pub record Digits (n : ℕ) (k : Classes) : Type 0 where
@@ -52,19 +56,19 @@ packed [] = []
 packed (k ∷ ks) = pack k ∷ packed ks
 
 -- its rule, at every entry
-rule : (i : ℕ) → i < 19 → Digits (getD (packed operandTable) i 0) (getD operandTable i (row unused unused unused unused))
+rule : (i : ℕ) → i < kinds → Digits (getD (packed operandTable) i 0) (getD operandTable i (row unused unused unused unused))
 unfolding packed operandTable
 rule i h = row-right (packed operandTable) tt i h
 
 -- the entry of a kind
-pub entry : (kind : ℕ) {i n : ℕ} → i ≡ kind - firstArithmetic → i < 19 → n ≡ getD (packed operandTable) i 0 → Digits n (classesOf kind)
+pub entry : (kind : ℕ) {i n : ℕ} → i ≡ kind - firstArithmetic → i < kinds → n ≡ getD (packed operandTable) i 0 → Digits n (classesOf kind)
 unfolding classesOf
 entry kind {i} e h d = rw (← e, d) (rule i h)
 
 -- past the table all is unused
-pub past-rows : (kind : ℕ) {i : ℕ} → i ≡ kind - firstArithmetic → 19 ≤ i → Digits 0 (classesOf kind)
+pub past-rows : (kind : ℕ) {i : ℕ} → i ≡ kind - firstArithmetic → kinds ≤ i → Digits 0 (classesOf kind)
 unfolding classesOf operandTable
 past-rows kind e h =
-    let past : 19 ≤ kind - firstArithmetic = omega arith in
+    let past : kinds ≤ kind - firstArithmetic = omega arith in
     rw (List·getD-eq-default operandTable (row unused unused unused unused) (unfold operandTable in past))
     (record { a = refl; b = refl; c = refl; d = refl })

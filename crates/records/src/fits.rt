@@ -6,7 +6,7 @@ ghost use Prim.Native.Nat.{_<_};
 ghost use lib.Dec.{eqb};
 ghost use Rattle.rules.specs.File.{isTerm, kindName, kindFunction};
 ghost use Rattle.rules.specs.Walk.{whole, namesEnd, isEnd};
-ghost use Rattle.rules.specs.Records.{isFiller, integerFits, pointerFits, arrayFits, structFits, termFits, nameFits, headRanges, functionFits, listFits, regionBytesFit, calleeFits, instructionFits, argumentsFit, fitsIn, fits, endFits};
+ghost use Rattle.rules.specs.Records.{isFiller, integerFits, pointerFits, arrayFits, structFits, termFits, nameFits, headRanges, functionFits, listFits, regionBytesFit, calleeFits, instructionFits, argumentsFit, fits, endFits};
 ghost use Rattle.walk.specs.Scan.{callees};
 ghost use Rattle.walk.specs.Tables.{startsOf};
 use crate::operands::classes;
@@ -42,7 +42,7 @@ use walk::limits::STRUCT;
 
 // ---- where a table ends
 
-pub fn names_end(t: Walk) -> bool
+fn names_end(t: Walk) -> bool
     ensures { λ b. ⌜ b ≡ namesEnd t ⌝ }
 {
     let p = t.phase;
@@ -64,7 +64,7 @@ pub fn names_end(t: Walk) -> bool
     }
 }
 
-pub fn is_end(p: Phase) -> bool
+fn is_end(p: Phase) -> bool
     ensures { λ b. ⌜ b ≡ isEnd p ⌝ }
 {
     match p {
@@ -101,31 +101,31 @@ pub fn end_fits(p: Phase) -> bool
 
 // ---- terms, names and functions
 
-pub fn is_filler(x: Record) -> bool
+fn is_filler(x: Record) -> bool
     ensures { λ b. ⌜ b ≡ isFiller x ⌝ }
 {
     (((x.kind == FILLER) & (x.a == 0)) & ((x.b == 0) & (x.c == 0))) & (x.d == 0)
 }
 
-pub fn integer_fits(x: Record) -> bool
+fn integer_fits(x: Record) -> bool
     ensures { λ b. ⌜ b ≡ integerFits x ⌝ }
 {
     ((x.a == 1) | ((x.a == 2) | (x.a == 4))) & (((x.b == 0) & (x.c == 0)) & (x.d == 0))
 }
 
-pub fn pointer_fits(w: Walk, x: Record) -> bool
+fn pointer_fits(w: Walk, x: Record) -> bool
     ensures { λ b. ⌜ b ≡ pointerFits w x ⌝ }
 {
     (((x.a as usize) < w.terms) & ((x.b as usize) < MOST_REGIONS)) & ((x.c == 0) & (x.d == 0))
 }
 
-pub fn array_fits(w: Walk, x: Record) -> bool
+fn array_fits(w: Walk, x: Record) -> bool
     ensures { λ b. ⌜ b ≡ arrayFits w x ⌝ }
 {
     (((x.a as usize) < w.terms) & ((1 <= x.d) & (x.d <= SIZE_LIMIT))) & ((x.b == 0) & (x.c == 0))
 }
 
-pub fn struct_fits(end: Walk, x: Record) -> bool
+fn struct_fits(end: Walk, x: Record) -> bool
     ensures { λ b. ⌜ b ≡ structFits end x ⌝ }
 {
     let ended = names_end(end);
@@ -133,7 +133,7 @@ pub fn struct_fits(end: Walk, x: Record) -> bool
     ((((x.a as usize) < end.names) | !ended) & (x.b <= MOST_REGION_PARAMS)) & ((x.c == 0) & regions)
 }
 
-pub fn term_fits(end: Walk, w: Walk, x: Record) -> bool
+fn term_fits(end: Walk, w: Walk, x: Record) -> bool
     ensures { λ b. ⌜ b ≡ termFits end w x ⌝ }
 {
     let integer = integer_fits(x);
@@ -146,7 +146,7 @@ pub fn term_fits(end: Walk, w: Walk, x: Record) -> bool
             | (((k == ARRAY) & array) | ((k == STRUCT) & named)))
 }
 
-pub fn name_fits(w: Walk, x: Record) -> bool
+fn name_fits(w: Walk, x: Record) -> bool
     ensures { λ b. ⌜ b ≡ nameFits w x ⌝ }
 {
     ((w.names < MOST_STRUCTS) & (x.kind == NAME))
@@ -154,7 +154,7 @@ pub fn name_fits(w: Walk, x: Record) -> bool
             & ((x.c == 0) & (x.d == 0)))
 }
 
-pub fn head_ranges(x: Record) -> bool
+fn head_ranges(x: Record) -> bool
     ensures { λ b. ⌜ b ≡ headRanges x ⌝ }
 {
     let regions = walk::file::regions_of(x);
@@ -166,7 +166,7 @@ pub fn head_ranges(x: Record) -> bool
             & ((1 <= instructions) & (instructions <= MOST_INSTRUCTIONS)))
 }
 
-pub fn function_fits(w: Walk, x: Record) -> bool
+fn function_fits(w: Walk, x: Record) -> bool
     ensures { λ b. ⌜ b ≡ functionFits w x ⌝ }
 {
     let result = walk::file::return_of(x);
@@ -175,7 +175,7 @@ pub fn function_fits(w: Walk, x: Record) -> bool
 }
 
 // A record of kind k with the terms still to come.
-pub fn list_fits(k: u8, w: Walk, x: Record) -> bool
+fn list_fits(k: u8, w: Walk, x: Record) -> bool
     ensures { λ b. ⌜ b ≡ listFits k w x ⌝ }
 {
     let terms = seven(x, w.left, w.terms);
@@ -184,7 +184,7 @@ pub fn list_fits(k: u8, w: Walk, x: Record) -> bool
 
 // ---- code
 
-pub fn region_bytes_fit(f: &[u8], starts: &[usize; CALLEES], end: Walk, w: Walk, x: Record) -> bool
+fn region_bytes_fit(f: &[u8], starts: &[usize; CALLEES], end: Walk, w: Walk, x: Record) -> bool
     requires { ⌜ now starts ≡ startsOf (now f) ⌝ ∗ ⌜ end ≡ whole (now f) .walk ⌝ }
     ensures { λ b. ⌜ b ≡ regionBytesFit (now (f .entry)) (whole (now (f .entry))) w x ⌝ }
 {
@@ -196,7 +196,7 @@ pub fn region_bytes_fit(f: &[u8], starts: &[usize; CALLEES], end: Walk, w: Walk,
     }
 }
 
-pub fn callee_fits(f: &[u8], end: Walk, x: Record) -> bool
+fn callee_fits(f: &[u8], end: Walk, x: Record) -> bool
     requires { ⌜ end ≡ whole (now f) .walk ⌝ }
     ensures { λ b. ⌜ b ≡ calleeFits (whole (now (f .entry))) x ⌝ }
 {
@@ -205,7 +205,7 @@ pub fn callee_fits(f: &[u8], end: Walk, x: Record) -> bool
     ((x.b as usize) < end.functions) | !ended
 }
 
-pub fn instruction_fits(f: &[u8], starts: &[usize; CALLEES], end: Walk, w: Walk, x: Record) -> bool
+fn instruction_fits(f: &[u8], starts: &[usize; CALLEES], end: Walk, w: Walk, x: Record) -> bool
     requires { ⌜ now starts ≡ startsOf (now f) ⌝ ∗ ⌜ end ≡ whole (now f) .walk ⌝ }
     ensures { λ b. ⌜ b ≡ instructionFits (now (f .entry)) (whole (now (f .entry))) w x ⌝ }
 {
@@ -248,7 +248,7 @@ pub fn instruction_fits(f: &[u8], starts: &[usize; CALLEES], end: Walk, w: Walk,
                 )))
 }
 
-pub fn arguments_fit(f: &[u8], starts: &[usize; CALLEES], end: Walk, w: Walk, x: Record) -> bool
+fn arguments_fit(f: &[u8], starts: &[usize; CALLEES], end: Walk, w: Walk, x: Record) -> bool
     requires { ⌜ now starts ≡ startsOf (now f) ⌝ ∗ ⌜ end ≡ whole (now f) .walk ⌝ ∗ ⌜ w .callee < callees ⌝ }
     ensures { λ b. ⌜ b ≡ argumentsFit (now (f .entry)) (whole (now (f .entry))) w x ⌝ }
 {
@@ -266,7 +266,7 @@ pub fn arguments_fit(f: &[u8], starts: &[usize; CALLEES], end: Walk, w: Walk, x:
 
 // ---- by the walk's phase
 
-pub fn name_or_function_fits(w: Walk, x: Record) -> bool
+fn name_or_function_fits(w: Walk, x: Record) -> bool
     ensures { λ b. ⌜ b ≡ cond (eqb (x .kind) kindName) (nameFits w x) (functionFits w x) ⌝ }
 {
     if x.kind == NAME {
@@ -276,7 +276,7 @@ pub fn name_or_function_fits(w: Walk, x: Record) -> bool
     }
 }
 
-pub fn first_fits(end: Walk, w: Walk, x: Record) -> bool
+fn first_fits(end: Walk, w: Walk, x: Record) -> bool
     ensures { λ b. ⌜ b ≡ cond (isTerm (x .kind)) (termFits end w x) (cond (eqb (x .kind) kindName) (nameFits w x) (functionFits w x)) ⌝ }
 {
     if walk::step::is_term(x.kind) {
@@ -286,7 +286,7 @@ pub fn first_fits(end: Walk, w: Walk, x: Record) -> bool
     }
 }
 
-pub fn function_or_filler_fits(w: Walk, x: Record) -> bool
+fn function_or_filler_fits(w: Walk, x: Record) -> bool
     ensures { λ b. ⌜ b ≡ cond (eqb (x .kind) kindFunction) (functionFits w x) (isFiller x) ⌝ }
 {
     if x.kind == FUNCTION {

@@ -17,14 +17,14 @@ pub enum Outcome {
     Refused { number: usize, place: usize },
 }
 
-pub fn length_right(f: &[u8]) -> bool
+fn length_right(f: &[u8]) -> bool
     ensures { λ b. ⌜ b ≡ lengthRight (now (f .entry)) ⌝ }
 {
     let n = f.len() / BLOCK_BYTES;
     (f.len() % BLOCK_BYTES == 0) & ((1 <= n) & (n <= MOST_BLOCKS))
 }
 
-pub fn place_right(f: &[u8], i: usize) -> bool
+fn place_right(f: &[u8], i: usize) -> bool
     requires { ⌜ i < mostBlocks ⌝ }
     ensures { λ b. ⌜ b ≡ placeRight (now (f .entry)) i ⌝ }
 {
@@ -34,7 +34,7 @@ pub fn place_right(f: &[u8], i: usize) -> bool
 }
 
 // The sum over the block from byte base on.
-pub fn check_sum(f: &[u8], base: usize) -> usize
+fn check_sum(f: &[u8], base: usize) -> usize
     requires { ⌜ base < blockBytes * mostBlocks ⌝ }
     ensures { λ s. ⌜ s ≡ checkSum (now (f .entry)) base checkAt ⌝ }
 {
@@ -47,7 +47,7 @@ pub fn check_sum(f: &[u8], base: usize) -> usize
     sum
 }
 
-pub fn check_right(f: &[u8], i: usize) -> bool
+fn check_right(f: &[u8], i: usize) -> bool
     requires { ⌜ i < mostBlocks ⌝ }
     ensures { λ b. ⌜ b ≡ checkRight (now (f .entry)) i ⌝ }
 {
@@ -57,7 +57,7 @@ pub fn check_right(f: &[u8], i: usize) -> bool
 }
 
 // Two tests for each block, 2 first.
-pub fn block_test(f: &[u8], p: usize) -> bool
+fn block_test(f: &[u8], p: usize) -> bool
     requires { ⌜ p < 2 * mostBlocks ⌝ }
     ensures { λ b. ⌜ b ≡ blockTest (now (f .entry)) p ⌝ }
 {
@@ -69,7 +69,7 @@ pub fn block_test(f: &[u8], p: usize) -> bool
 }
 
 // The first of n tests that fails, or n.
-pub fn first_block(f: &[u8], n: usize) -> usize
+fn first_block(f: &[u8], n: usize) -> usize
     requires { ⌜ n ≤ 2 * mostBlocks ⌝ }
     ensures { λ p. ⌜ p ≡ first n (blockTest (now (f .entry))) ⌝ }
 {

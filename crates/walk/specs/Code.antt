@@ -1,15 +1,13 @@
 -- Laws of the places of a function's instructions, for code that goes from one to the next: where the first stands, which is next, and how
 -- far they can be. Assumes nothing.
-use mathlib.Core.Path.{_≡_, refl, sym, ap, _∙_}
-use mathlib.Core.Bool.{Bool, true, false, cond}
-use Prim.Native.Nat.{ℕ, zero, suc, _+_, _*_, _/_, _<_, _≤_}
+use mathlib.Core.Path.{_≡_, sym, ap, _∙_}
+use Prim.Native.Nat.{ℕ, zero, suc, _+_, _*_, _<_, _≤_}
 use native.Mathlib.Omega.{arith}
 use lib.Dec.{ltb, eqb}
-use lib.ListN.{getD}
 use Rattle.words.specs.Bytes.{Bytes}
 use Rattle.words.specs.Choose.{cond-split}
 use Rattle.rules.specs.File.{recordOf, regionsOf, instructionsOf, kindCall}
-use Rattle.rules.specs.Decode.{registersAt, codeAt, after, places, codePlaces, startOf, instructionAt}
+use Rattle.rules.specs.Decode.{registersAt, codeAt, after, codePlaces, startOf, instructionAt}
 use Rattle.typing.specs.Walk.{skip, skip-suc, place-at}
 
 module _ (f : Bytes) where

@@ -1,12 +1,12 @@
 -- Laws of a file's records: past the file they are zero. Assumes nothing.
 use mathlib.Core.Path.{_≡_, refl}
-use Prim.Native.Nat.{ℕ, zero, suc, _+_, _*_, _/_, _%_, _<_, _≤_}
+use Prim.Native.Nat.{ℕ, zero, suc, _+_, _/_, _<_, _≤_}
 use native.Mathlib.Omega.{arith}
 use lib.ListN.{length}
 use Rattle.words.specs.Bytes.{Bytes, AllBytes}
 use Rattle.words.specs.ByteLaws.{byte-past, number-past}
-use Rattle.rules.specs.Limits.{blockBytes, blockRecords, recordBytes}
-use Rattle.rules.specs.File.{blocks, recordsIn, recordStart, recordOf, entryOf}
+use Rattle.rules.specs.Limits.{blockRecords}
+use Rattle.rules.specs.File.{blocks, recordStart, recordOf, entryOf}
 use Rattle.rules.specs.declared.Record.{Record}
 
 abbrev pub noRecord : Record

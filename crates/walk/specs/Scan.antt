@@ -1,20 +1,17 @@
 -- Laws of the walk for code that goes from record to record: the walk before the next record, and that its counts fit a machine word.
 -- Assumes nothing.
-use mathlib.Core.Path.{_≡_, refl, sym, ap, _∙_}
-use mathlib.Core.Bool.{Bool, true, false, cond}
+use mathlib.Core.Path.{_≡_, refl, ap}
+use mathlib.Core.Bool.{Bool, cond}
 use mathlib.Core.Logic.{_⊎_, inl, inr, ⊎-elim}
-use mathlib.Core.List.{List, [], _∷_, _++_}
-use Prim.Native.Nat.{ℕ, zero, suc, _+_, _-_, _<_, _≤_, _^_}
+use Prim.Native.Nat.{ℕ, _+_, _-_, _<_, _≤_, _^_}
 use native.Mathlib.Numerals.{add-one}
 use native.Mathlib.Omega.{arith}
 use lib.Dec.{ltb, leb, eqb}
-use lib.ListN.{length, length-append}
-use borrow.Author.Tests.{lt-ltb, le-ltb}
 use Rattle.words.specs.Bytes.{Bytes}
 use Rattle.words.specs.Choose.{cond-split}
 use Rattle.rules.specs.Limits.{mostEntries}
-use Rattle.rules.specs.File.{records, recordOf, regionsOf, isTerm, isInstruction, kindFiller, kindName, kindFields, kindFunction, kindRegions, kindRegisters, kindCall, kindArguments}
-use Rattle.rules.specs.Walk.{to, start, toCode, toRegisters, headed, opened, toTerm, named, done, called, toFunction, toName, step, next, Scan, nextScan, scan, whole}
+use Rattle.rules.specs.File.{recordOf, regionsOf, isTerm, isInstruction, kindFiller, kindName, kindFields, kindFunction, kindRegions, kindRegisters, kindCall, kindArguments}
+use Rattle.rules.specs.Walk.{to, start, toCode, toRegisters, headed, opened, toTerm, named, done, called, toFunction, toName, step, next, Scan, nextScan, scan}
 use Rattle.rules.specs.declared.Record.{Record}
 use Rattle.rules.specs.declared.Walk.{Walk}
 use Rattle.rules.specs.declared.Phase.{Phase}
@@ -75,10 +72,6 @@ module _ (w : Walk) (h : w .callee < callees) where
   grown-done = either-way (leb (w .left) 1) (to w Functions 0) (to w Code (w .left - 1)) (grown-to Functions 0) (grown-to Code (w .left - 1))
 
 module _ (w : Walk) (x : Record) (r : ℕ) (h : w .callee < callees) (k : x .b < callees) where
-  -- record 7 is read, and what follows it keeps the counts
-  after-head : {v : Walk} → Grown (headed w x r) v → v .terms ≤ w .terms + 1 → v .names ≤ w .names + 1 → v .functions ≡ w .functions + 1 → Grown w v
-  after-head g a b e = record { terms = a; names = b; functions = inr e; callee = g .callee }
-
   grown-headed : Grown w (headed w x r)
   grown-headed = record { terms = omega arith; names = omega arith; functions = inr refl; callee = omega arith }
 

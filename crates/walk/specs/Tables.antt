@@ -1,12 +1,12 @@
 -- What one pass over the records gives: the walk of the whole file, and the record 7 of each function that a call can name. And how the
 -- pass goes from record to record. Assumes nothing.
-use mathlib.Core.Path.{_≡_, refl, sym, ap, ap₂, _∙_}
+use mathlib.Core.Path.{_≡_, refl, sym, ap, _∙_}
 use mathlib.Core.Bool.{Bool, true, false, cond, _&&_}
 use mathlib.Core.Logic.{_⊎_, inl, inr, ⊎-elim}
 use mathlib.Core.List.{List, [], _∷_, _++_}
 use Prim.Native.Nat.{ℕ, zero, suc, _+_, _*_, _%_, _<_, _≤_, _^_}
 use native.Mathlib.Numerals.{add-one}
-use native.Mathlib.Decide.{ℕ-discrete, decLt}
+use native.Mathlib.Decide.{decLt}
 use native.Mathlib.Omega.{arith}
 use lib.Dec.{ltb, leb, eqb}
 use lib.ListN.{length, getD, set, replicate, length-append, length-set, length-replicate, getD-replicate}
@@ -19,14 +19,13 @@ use Rattle.words.specs.FirstLaws.{sumBelow-more}
 use Rattle.words.specs.Choose.{both, not-both, cond-split}
 use Rattle.rules.specs.Limits.{blockBytes, mostBlocks, blockRecords}
 use Rattle.rules.specs.File.{blocks, lengthRight, records, recordOf, instructionsOf}
-use Rattle.rules.specs.Walk.{start, next, Scan, nextScan, scan, whole}
+use Rattle.rules.specs.Walk.{start, next, nextScan, scan, whole}
 use Rattle.rules.specs.Records.{headOf}
 use Rattle.rules.specs.Decode.{functionOf, moduleOf, startOf}
 use Rattle.rules.specs.Verdict.{instructions}
-use Rattle.rules.specs.declared.Record.{Record}
 use Rattle.rules.specs.declared.Walk.{Walk}
 use Rattle.walk.specs.declared.tables.Tables.{Tables}
-use Rattle.walk.specs.Scan.{callees, Room, Counts, counts-start, counts-room, counts-next, Grown, grown-next, scan-more}
+use Rattle.walk.specs.Scan.{callees, Room, Counts, counts-start, counts-room, counts-next, grown-next, scan-more}
 use Rattle.walk.specs.Record.{byte-of}
 use Rattle.typing.specs.Lists.{getD-left, getD-last, getD-past}
 

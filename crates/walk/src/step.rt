@@ -36,7 +36,7 @@ pub fn is_instruction(kind: u8) -> bool
     (FIRST_INSTRUCTION <= kind) & (kind <= LAST_INSTRUCTION)
 }
 
-pub fn to(w: Walk, p: Phase, n: usize) -> Walk
+fn to(w: Walk, p: Phase, n: usize) -> Walk
     ensures { λ v. ⌜ v ≡ to w p n ⌝ }
 {
     Walk {
@@ -70,7 +70,7 @@ pub fn start() -> Walk
     }
 }
 
-pub fn to_code(w: Walk) -> Walk
+fn to_code(w: Walk) -> Walk
     ensures { λ v. ⌜ v ≡ toCode w ⌝ }
 {
     if 0 < w.instructions {
@@ -80,7 +80,7 @@ pub fn to_code(w: Walk) -> Walk
     }
 }
 
-pub fn to_registers(w: Walk) -> Walk
+fn to_registers(w: Walk) -> Walk
     ensures { λ v. ⌜ v ≡ toRegisters w ⌝ }
 {
     if 0 < w.registers {
@@ -90,7 +90,7 @@ pub fn to_registers(w: Walk) -> Walk
     }
 }
 
-pub fn headed(w: Walk, x: Record, r: usize) -> Walk
+fn headed(w: Walk, x: Record, r: usize) -> Walk
     requires { ⌜ Room w ⌝ }
     ensures { λ v. ⌜ v ≡ headed w x r ⌝ }
 {
@@ -110,7 +110,7 @@ pub fn headed(w: Walk, x: Record, r: usize) -> Walk
     }
 }
 
-pub fn opened(w: Walk, x: Record, r: usize) -> Walk
+fn opened(w: Walk, x: Record, r: usize) -> Walk
     requires { ⌜ Room w ⌝ }
     ensures { λ v. ⌜ v ≡ opened w x r ⌝ }
 {
@@ -119,7 +119,7 @@ pub fn opened(w: Walk, x: Record, r: usize) -> Walk
     if 0 < n { v } else { to_registers(v) }
 }
 
-pub fn to_term(w: Walk) -> Walk
+fn to_term(w: Walk) -> Walk
     requires { ⌜ Room w ⌝ }
     ensures { λ v. ⌜ v ≡ toTerm w ⌝ }
 {
@@ -137,7 +137,7 @@ pub fn to_term(w: Walk) -> Walk
     }
 }
 
-pub fn named(w: Walk, x: Record) -> Walk
+fn named(w: Walk, x: Record) -> Walk
     requires { ⌜ Room w ⌝ }
     ensures { λ v. ⌜ v ≡ named w x ⌝ }
 {
@@ -155,7 +155,7 @@ pub fn named(w: Walk, x: Record) -> Walk
     }
 }
 
-pub fn done(w: Walk) -> Walk
+fn done(w: Walk) -> Walk
     ensures { λ v. ⌜ v ≡ done w ⌝ }
 {
     let left = w.left;
@@ -166,7 +166,7 @@ pub fn done(w: Walk) -> Walk
     }
 }
 
-pub fn called(w: Walk, x: Record) -> Walk
+fn called(w: Walk, x: Record) -> Walk
     ensures { λ v. ⌜ v ≡ called w x ⌝ }
 {
     Walk {
@@ -183,7 +183,7 @@ pub fn called(w: Walk, x: Record) -> Walk
     }
 }
 
-pub fn to_function(w: Walk, x: Record, r: usize) -> Walk
+fn to_function(w: Walk, x: Record, r: usize) -> Walk
     requires { ⌜ Room w ⌝ }
     ensures { λ v. ⌜ v ≡ toFunction w x r ⌝ }
 {
@@ -196,7 +196,7 @@ pub fn to_function(w: Walk, x: Record, r: usize) -> Walk
     }
 }
 
-pub fn to_name(w: Walk, x: Record, r: usize) -> Walk
+fn to_name(w: Walk, x: Record, r: usize) -> Walk
     requires { ⌜ Room w ⌝ }
     ensures { λ v. ⌜ v ≡ toName w x r ⌝ }
 {
@@ -207,7 +207,7 @@ pub fn to_name(w: Walk, x: Record, r: usize) -> Walk
     }
 }
 
-pub fn in_terms(w: Walk, x: Record, r: usize) -> Walk
+fn in_terms(w: Walk, x: Record, r: usize) -> Walk
     requires { ⌜ Room w ⌝ }
     ensures { λ v. ⌜ v ≡ step Terms w x r ⌝ }
 {
@@ -218,7 +218,7 @@ pub fn in_terms(w: Walk, x: Record, r: usize) -> Walk
     }
 }
 
-pub fn in_fields(w: Walk, x: Record, r: usize) -> Walk
+fn in_fields(w: Walk, x: Record, r: usize) -> Walk
     ensures { λ v. ⌜ v ≡ step Fields w x r ⌝ }
 {
     if x.kind == FIELDS {
@@ -228,7 +228,7 @@ pub fn in_fields(w: Walk, x: Record, r: usize) -> Walk
     }
 }
 
-pub fn in_regions(w: Walk, x: Record, r: usize) -> Walk
+fn in_regions(w: Walk, x: Record, r: usize) -> Walk
     ensures { λ v. ⌜ v ≡ step Regions w x r ⌝ }
 {
     if x.kind == REGIONS {
@@ -238,7 +238,7 @@ pub fn in_regions(w: Walk, x: Record, r: usize) -> Walk
     }
 }
 
-pub fn in_registers(w: Walk, x: Record, r: usize) -> Walk
+fn in_registers(w: Walk, x: Record, r: usize) -> Walk
     ensures { λ v. ⌜ v ≡ step Registers w x r ⌝ }
 {
     let left = w.left;
@@ -253,7 +253,7 @@ pub fn in_registers(w: Walk, x: Record, r: usize) -> Walk
     }
 }
 
-pub fn in_code(w: Walk, x: Record, r: usize) -> Walk
+fn in_code(w: Walk, x: Record, r: usize) -> Walk
     ensures { λ v. ⌜ v ≡ step Code w x r ⌝ }
 {
     if x.kind == CALL {
@@ -265,7 +265,7 @@ pub fn in_code(w: Walk, x: Record, r: usize) -> Walk
     }
 }
 
-pub fn in_arguments(w: Walk, x: Record, r: usize) -> Walk
+fn in_arguments(w: Walk, x: Record, r: usize) -> Walk
     ensures { λ v. ⌜ v ≡ step Arguments w x r ⌝ }
 {
     if x.kind == ARGUMENTS {

@@ -1,0 +1,56 @@
+-- `instructions::scan::typed` meets its contract: a law for each range of kinds.
+use mathlib.Core.Path.{_≡_, refl, sym, ap, ap₂, _∙_}
+use Prim.Native.Nat.{ℕ, _<_, _≤_, _-_}
+use denote.Ref.{now}
+use mathlib.Core.Bool.{Bool, true, false, _&&_, _||_}
+use lib.Dec.{ltb, leb, eqb}
+use Rattle.words.specs.Decide.{does}
+use Rattle.rules.specs.Decode.{moduleOf}
+use Rattle.functions.specs.Functions.{functionAt}
+use Rattle.rules.specs.Types.{variable, Tree, form, numberOf, regionOf, inner, int, sub, decTree, Variable}
+use Rattle.words.specs.Bytes.{Bytes}
+use Rattle.terms.specs.Compare.{under}
+use Rattle.rules.specs.Flat.{flat, decRun, decSame}
+use Rattle.rules.specs.declared.Record.{Record}
+use Rattle.judgment.specs.Kinds.{kind-arithmetic, kind-memory, kind-control}
+use Rattle.rules.specs.File.{recordOf}
+use Rattle.rules.specs.Module.{Instruction}
+use Rattle.rules.specs.Decision.{decTyped}
+use Rattle.rules.specs.Decode.{arithmeticOf, memoryOf}
+use native.Mathlib.Omega.{arith}
+use borrow.Author.Needs.{needs}
+use Rattle.instructions.proofs.scan.typed.Statement.{statement}
+use Rattle.instructions.proofs.scan.typed.Tie as tie
+
+record-at-requires : tie.Need-record-at-requires
+record-at-requires c κs = search needs
+
+arithmetic-requires : tie.Need-arithmetic-requires
+arithmetic-requires c κs = search needs
+
+memory-requires : tie.Need-memory-requires
+memory-requires c κs = search needs
+
+control-requires : tie.Need-control-requires
+control-requires c κs = search needs
+
+returns : tie.Need-returns
+returns c = let a = c .before .before .before .before .before .args in let f = now (a .f) in let m = moduleOf f in let F = functionAt f (a .h) in let xe = c .before .before .record-at .ensures in let e = ap (λ (x : Record). x .kind) xe in c .arithmetic .ensures ∙ ap (λ (i : Instruction). does (decTyped m F i)) (ap arithmeticOf xe ∙ sym (kind-arithmetic f (a .r) (omega (arith, e, c .before .if1 .taken))))
+
+returns-2 : tie.Need-returns-2
+returns-2 c = let a = c .before .before .before .before .before .before .args in let f = now (a .f) in let m = moduleOf f in let F = functionAt f (a .h) in let xe = c .before .before .before .record-at .ensures in let e = ap (λ (x : Record). x .kind) xe in c .memory .ensures ∙ ap (λ (i : Instruction). does (decTyped m F i)) (ap memoryOf xe ∙ sym (kind-memory f (a .r) (omega (arith, e, c .before .before .if1 .left)) (omega (arith, e, c .before .if2 .taken))))
+
+returns-3 : tie.Need-returns-3
+returns-3 c = let a = c .before .before .before .before .before .before .args in let f = now (a .f) in let m = moduleOf f in let F = functionAt f (a .h) in let xe = c .before .before .before .record-at .ensures in let e = ap (λ (x : Record). x .kind) xe in c .control .ensures ∙ ap (λ (i : Instruction). does (decTyped m F i)) (sym (kind-control f (a .r) (omega (arith, e, c .before .if2 .left))))
+
+pub typed-spec : {M : Type 1} → statement M
+typed-spec =
+    tie.close
+    (tie.spec
+    record-at-requires
+    arithmetic-requires
+    memory-requires
+    control-requires
+    returns
+    returns-2
+    returns-3)

@@ -1,0 +1,72 @@
+// One match on the kind picks the typing rule; and the scan of a function's instructions.
+ghost use mathlib.Core.Path.{_≡_};
+ghost use Prim.Native.Nat.{_<_, _^_};
+ghost use Rattle.words.specs.First.{first};
+ghost use Rattle.words.specs.Decide.{does};
+ghost use Rattle.rules.specs.Decision.{decTyped};
+ghost use Rattle.rules.specs.Decode.{moduleOf};
+ghost use Rattle.rules.specs.Verdict.{instructionTest};
+ghost use Rattle.runs.specs.Table.{Table};
+ghost use Rattle.functions.specs.Functions.{placeLimit, Known, functionAt, instructionIn, placeIn};
+ghost use Rattle.instructions.specs.Plain.{Tight};
+use walk::limits::CALLEES;
+
+// The instruction at record r keeps the rule of its kind.
+pub fn typed(
+    f: &[u8],
+    n: usize,
+    k: usize,
+    c: usize,
+    starts: &[usize; CALLEES],
+    tab: &[u64],
+    h: usize,
+    r: usize,
+) -> bool
+    requires { ⌜ Known (now f) n k c (now starts) ⌝ ∗ ⌜ Table (now f) n k (now tab) ⌝ ∗ ⌜ Tight (functionAt (now f) h) ⌝ ∗ ⌜ (h < placeLimit) × (r < 2 ^ 32) ⌝ }
+    ensures { λ s. ⌜ s ≡ does (decTyped (moduleOf (now (f .entry))) (functionAt (now (f .entry)) h) (instructionIn (now (f .entry)) r)) ⌝ }
+{
+    let x = walk::file::record_at(f, r);
+    let kind = x.kind;
+    match kind {
+        0..=22 => judgment::arithmetic::arithmetic(f, n, h, x),
+        23..=28 => crate::memory::memory(f, n, k, tab, h, x),
+        _ => judgment::control::control(f, n, k, c, starts, h, r),
+    }
+}
+
+// An instruction of a function, and its record.
+pub struct Found {
+    pub index: usize,
+    pub place: usize,
+}
+
+// The first instruction that breaks its rule, or their number.
+pub fn first_instruction(
+    f: &[u8],
+    n: usize,
+    k: usize,
+    c: usize,
+    starts: &[usize; CALLEES],
+    tab: &[u64],
+    h: usize,
+) -> Found
+    requires { ⌜ Known (now f) n k c (now starts) ⌝ ∗ ⌜ Table (now f) n k (now tab) ⌝ ∗ ⌜ Tight (functionAt (now f) h) ⌝ ∗ ⌜ h < placeLimit ⌝ }
+    ensures { λ r. do let F = functionAt (now (f .entry)) h in ⌜ (r .index ≡ first (F .codeLength) (instructionTest (moduleOf (now (f .entry))) F)) × (r .index < F .codeLength → r .place ≡ placeIn (now (f .entry)) h (r .index)) ⌝ }
+{
+    let x = walk::file::record_at(f, h);
+    let count = walk::file::instructions_of(x);
+    let mut r = walk::code::code_at(f, h);
+    let mut i = 0;
+    while i < count {
+        if typed(f, n, k, c, starts, tab, h, r) {
+            r = walk::code::after(f, r);
+            i = i + 1;
+        } else {
+            return Found { index: i, place: r };
+        }
+    }
+    Found {
+        index: count,
+        place: 0,
+    }
+}

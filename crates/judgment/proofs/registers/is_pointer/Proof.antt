@@ -1,0 +1,22 @@
+-- `judgment::registers::is_pointer` meets its contract: by the callees' contracts.
+use mathlib.Core.Path.{_≡_, refl, sym, ap, ap₂, _∙_}
+use Prim.Native.Nat.{ℕ}
+use mathlib.Core.Bool.{Bool, true, false, _&&_, _||_}
+use lib.Dec.{ltb, leb, eqb}
+use Rattle.judgment.specs.Registers.{isPointer}
+use borrow.Author.Needs.{needs}
+use Rattle.judgment.proofs.registers.is_pointer.Statement.{statement}
+use Rattle.judgment.proofs.registers.is_pointer.Tie as tie
+
+is-register-requires : tie.Need-is-register-requires
+is-register-requires c κs = search needs
+
+form-of-requires : tie.Need-form-of-requires
+form-of-requires c κs = search needs
+
+returns : tie.Need-returns
+unfolding isPointer
+returns c = ap₂ (λ (p : Bool) (x : ℕ). p && eqb x 2) (c .before .is-register .ensures) (c .form-of .ensures)
+
+pub is-pointer-spec : {M : Type 1} → statement M
+is-pointer-spec = tie.close (tie.spec is-register-requires form-of-requires returns)

@@ -1,0 +1,5 @@
+-- Refusal 7 as tests that the code makes.
+pub mod Registers
+pub mod Rules
+pub mod Kinds
+pub mod Calls

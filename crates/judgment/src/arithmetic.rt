@@ -1,0 +1,108 @@
+// Kinds 16 to 22.
+ghost use mathlib.Core.Path.{_≡_};
+ghost use Prim.Native.Nat.{_<_, _^_};
+ghost use lib.Dec.{ltb};
+ghost use Rattle.words.specs.Decide.{does};
+ghost use Rattle.rules.specs.Module.{constant, copy, operate, zeroExtend, signExtend, address, check};
+ghost use Rattle.rules.specs.Decision.{decTyped};
+ghost use Rattle.rules.specs.Decode.{moduleOf, arithmeticOf};
+ghost use Rattle.terms.specs.Extents.{Terms};
+ghost use Rattle.functions.specs.Functions.{placeLimit, functionAt};
+use crate::registers::has_width;
+use crate::registers::is_integer;
+use crate::registers::is_pointer;
+use crate::registers::number_of;
+use crate::registers::same_types;
+use rules::Record;
+
+// d fits w bytes.
+pub fn fits(d: u32, w: usize) -> bool
+    ensures { λ b. ⌜ b ≡ ltb d (256 ^ w) ⌝ }
+{
+    match w {
+        0 => d < 1,
+        1 => d < 256,
+        2 => d < 65536,
+        3 => d < 16777216,
+        _ => true,
+    }
+}
+
+// 16: a becomes d.
+pub fn constant(f: &[u8], n: usize, h: usize, a: usize, d: u32) -> bool
+    requires { ⌜ Terms (now f) n ⌝ ∗ ⌜ h < placeLimit ⌝ }
+    ensures { λ b. ⌜ b ≡ does (decTyped (moduleOf (now (f .entry))) (functionAt (now (f .entry)) h) (constant a d)) ⌝ }
+{
+    is_integer(f, n, h, a) & fits(d, number_of(f, n, h, a))
+}
+
+// 17: a copy of b.
+pub fn copy(f: &[u8], n: usize, h: usize, a: usize, b: usize) -> bool
+    requires { ⌜ Terms (now f) n ⌝ ∗ ⌜ h < placeLimit ⌝ }
+    ensures { λ s. ⌜ s ≡ does (decTyped (moduleOf (now (f .entry))) (functionAt (now (f .entry)) h) (copy a b)) ⌝ }
+{
+    same_types(f, n, h, a, b)
+}
+
+// 18: operation o on b and c.
+pub fn operate(f: &[u8], n: usize, h: usize, o: u32, a: usize, b: usize, c: usize) -> bool
+    requires { ⌜ Terms (now f) n ⌝ ∗ ⌜ h < placeLimit ⌝ }
+    ensures { λ s. ⌜ s ≡ does (decTyped (moduleOf (now (f .entry))) (functionAt (now (f .entry)) h) (operate o a b c)) ⌝ }
+{
+    let plain = (o < 10) & same_types(f, n, h, a, b);
+    let quotient = (o == 10) & (has_width(f, n, h, 4, b) & has_width(f, n, h, 4, a));
+    let compare = (10 < o) & ((o <= 13) & has_width(f, n, h, 1, a));
+    (is_integer(f, n, h, b) & same_types(f, n, h, c, b)) & (plain | (quotient | compare))
+}
+
+// 19: integer b to integer a.
+pub fn zero_extend(f: &[u8], n: usize, h: usize, a: usize, b: usize) -> bool
+    requires { ⌜ Terms (now f) n ⌝ ∗ ⌜ h < placeLimit ⌝ }
+    ensures { λ s. ⌜ s ≡ does (decTyped (moduleOf (now (f .entry))) (functionAt (now (f .entry)) h) (zeroExtend a b)) ⌝ }
+{
+    is_integer(f, n, h, a) & is_integer(f, n, h, b)
+}
+
+// 20: the same, sign-extended.
+pub fn sign_extend(f: &[u8], n: usize, h: usize, a: usize, b: usize) -> bool
+    requires { ⌜ Terms (now f) n ⌝ ∗ ⌜ h < placeLimit ⌝ }
+    ensures { λ s. ⌜ s ≡ does (decTyped (moduleOf (now (f .entry))) (functionAt (now (f .entry)) h) (signExtend a b)) ⌝ }
+{
+    is_integer(f, n, h, a) & is_integer(f, n, h, b)
+}
+
+// 21: pointer b to i32 a.
+pub fn address(f: &[u8], n: usize, h: usize, a: usize, b: usize) -> bool
+    requires { ⌜ Terms (now f) n ⌝ ∗ ⌜ h < placeLimit ⌝ }
+    ensures { λ s. ⌜ s ≡ does (decTyped (moduleOf (now (f .entry))) (functionAt (now (f .entry)) h) (address a b)) ⌝ }
+{
+    is_pointer(f, n, h, b) & has_width(f, n, h, 4, a)
+}
+
+// 22: i32 or pointer b becomes pointer a.
+pub fn check(f: &[u8], n: usize, h: usize, a: usize, b: usize) -> bool
+    requires { ⌜ Terms (now f) n ⌝ ∗ ⌜ h < placeLimit ⌝ }
+    ensures { λ s. ⌜ s ≡ does (decTyped (moduleOf (now (f .entry))) (functionAt (now (f .entry)) h) (check a b)) ⌝ }
+{
+    is_pointer(f, n, h, a) & (has_width(f, n, h, 4, b) | is_pointer(f, n, h, b))
+}
+
+// The instruction with record x keeps the rule of its kind.
+pub fn arithmetic(f: &[u8], n: usize, h: usize, x: Record) -> bool
+    requires { ⌜ Terms (now f) n ⌝ ∗ ⌜ h < placeLimit ⌝ }
+    ensures { λ s. ⌜ s ≡ does (decTyped (moduleOf (now (f .entry))) (functionAt (now (f .entry)) h) (arithmeticOf x)) ⌝ }
+{
+    let kind = x.kind;
+    let a = x.a as usize;
+    let b = x.b as usize;
+    let c = x.c as usize;
+    match kind {
+        16 => constant(f, n, h, a, x.d),
+        17 => copy(f, n, h, a, b),
+        18 => operate(f, n, h, x.d, a, b, c),
+        19 => zero_extend(f, n, h, a, b),
+        20 => sign_extend(f, n, h, a, b),
+        21 => address(f, n, h, a, b),
+        _ => check(f, n, h, a, b),
+    }
+}

@@ -1,0 +1,55 @@
+-- `sizes::first_struct` meets its contract: the structs passed keep refusal 5's rules.
+use mathlib.Core.Path.{_≡_, refl, sym, ap, ap₂, _∙_}
+use Prim.Native.Nat.{ℕ, _<_, _≤_, _-_}
+use mathlib.Core.Bool.{Bool, true, false}
+use denote.Ref.{now}
+use borrow.Author.Count.{below-more}
+use Rattle.words.specs.First.{first}
+use Rattle.words.specs.FirstLaws.{first-found, first-none}
+use Rattle.rules.specs.Decode.{moduleOf}
+use Rattle.rules.specs.Verdict.{structTest}
+use borrow.Author.Needs.{needs}
+use native.Mathlib.Omega.{arith}
+use Rattle.sizes.proofs.first_struct.Statement.{statement}
+use Rattle.sizes.proofs.first_struct.Tie as tie
+
+abbrev Inv-loop : tie.InvT-loop
+Inv-loop f n k s₀ s = (s ≤ k) × ((j : ℕ) → j < s → structTest (moduleOf f) j ≡ true)
+
+abbrev μ-loop : tie.MeasureT-loop
+μ-loop f n k s₀ s = k - s
+
+loop-holds : tie.Need-loop-holds Inv-loop μ-loop
+loop-holds c = (omega arith, λ j l. absurd (omega arith))
+
+struct-fits-requires : tie.Need-struct-fits-requires Inv-loop μ-loop
+struct-fits-requires c κs = search needs
+
+add-s : tie.Need-add-s Inv-loop μ-loop
+add-s c = search needs
+
+loop-less : tie.Need-loop-less Inv-loop μ-loop
+loop-less c = search needs
+
+loop-again : tie.Need-loop-again Inv-loop μ-loop
+loop-again c = (omega arith, below-more _ _ (c .before .before .before .loop .inv .1) (cc))
+
+returns : tie.Need-returns Inv-loop μ-loop
+returns c = let a = c .before .before .before .before .before .args in first-found (a .k) (structTest (moduleOf (now (a .f)))) (c .before .before .before .loop .s) (c .before .before .before .loop .inv .1) (c .before .before .loop-test .taken) (cc)
+
+returns-2 : tie.Need-returns-2 Inv-loop μ-loop
+returns-2 c = let a = c .before .before .before .args in sym (first-none (a .k) (structTest (moduleOf (now (a .f)))) (λ j l. c .before .loop .inv .1 j (omega arith)))
+
+pub first-struct-spec : {M : Type 1} → statement M
+first-struct-spec =
+    tie.close
+    (tie.spec
+    Inv-loop
+    μ-loop
+    loop-holds
+    struct-fits-requires
+    add-s
+    loop-less
+    loop-again
+    returns
+    returns-2)

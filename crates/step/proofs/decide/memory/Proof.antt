@@ -1,0 +1,148 @@
+-- `memory` meets its contract: in each arm the kind is known, and one law says what it does.
+use mathlib.Core.Path.{_≡_, refl, sym, ap, _∙_, subst}
+use native.Mathlib.Omega.{arith}
+use Rattle.step.specs.Laws.{field-at, index-at, new-at, sized-at, free-left, field-is, index-is, load-is, store-is, take-is, free-is}
+use borrow.Author.Needs.{needs}
+use Rattle.step.proofs.decide.memory.Statement.{statement}
+use Rattle.step.proofs.decide.memory.Tie as tie
+
+register-a-requires : tie.Need-register-a-requires
+register-a-requires c κs = search needs
+
+register-b-requires : tie.Need-register-b-requires
+register-b-requires c κs = search needs
+
+register-requires : tie.Need-register-requires
+register-requires c κs = search needs
+
+immediate-of-requires : tie.Need-immediate-of-requires
+immediate-of-requires c κs = search needs
+
+field-requires : tie.Need-field-requires
+field-requires c κs = field-at (c .before .before .before .before .before .before .pre .0) (c .before .before .before .match .keys1) (c .before .register .ensures) (c .before .before .register-b .ensures) (c .immediate-of .ensures)
+
+register-b-requires-2 : tie.Need-register-b-requires-2
+register-b-requires-2 c κs = search needs
+
+register-requires-2 : tie.Need-register-requires-2
+register-requires-2 c κs = search needs
+
+register-c-requires : tie.Need-register-c-requires
+register-c-requires c κs = search needs
+
+register-requires-3 : tie.Need-register-requires-3
+register-requires-3 c κs = search needs
+
+immediate-of-requires-2 : tie.Need-immediate-of-requires-2
+immediate-of-requires-2 c κs = search needs
+
+index-requires : tie.Need-index-requires
+index-requires c κs = index-at (c .before .before .before .before .before .before .before .before .pre .0) (c .before .before .before .before .before .match .keys2) (c .before .before .before .register2 .ensures) (c .before .before .before .before .register-b2 .ensures) (c .before .register3 .ensures) (c .before .before .register-c .ensures) (c .immediate-of2 .ensures)
+
+register-b-requires-3 : tie.Need-register-b-requires-3
+register-b-requires-3 c κs = search needs
+
+register-b-requires-4 : tie.Need-register-b-requires-4
+register-b-requires-4 c κs = search needs
+
+register-requires-4 : tie.Need-register-requires-4
+register-requires-4 c κs = search needs
+
+width-a-requires : tie.Need-width-a-requires
+width-a-requires c κs = search needs
+
+load-requires : tie.Need-load-requires
+load-requires c κs = rw (c .width-a .ensures) (c .before .before .before .before .before .before .before .pre .0 .ranges .wide)
+
+register-requires-5 : tie.Need-register-requires-5
+register-requires-5 c κs = search needs
+
+width-b-requires : tie.Need-width-b-requires
+width-b-requires c κs = search needs
+
+register-b-requires-5 : tie.Need-register-b-requires-5
+register-b-requires-5 c κs = search needs
+
+register-requires-6 : tie.Need-register-requires-6
+register-requires-6 c κs = search needs
+
+store-requires : tie.Need-store-requires
+store-requires c κs = rw (c .before .before .width-b .ensures) (c .before .before .before .before .before .before .before .pre .0 .ranges .wideB)
+
+region-variable-requires : tie.Need-region-variable-requires
+region-variable-requires c κs = search needs
+
+region-of-requires : tie.Need-region-of-requires
+region-of-requires c κs = search needs
+
+immediate-of-requires-3 : tie.Need-immediate-of-requires-3
+immediate-of-requires-3 c κs = search needs
+
+new-requires : tie.Need-new-requires
+new-requires c κs = (c .before .before .before .before .before .before .pre .0 .size, sized-at (c .before .before .before .before .before .before .pre .0) (let h = c .before .before .before .match .keys5 in omega arith) (let h = c .before .before .before .match .keys5 in omega arith) (c .immediate-of3 .ensures), new-at (c .before .before .before .before .before .before .pre .0) (c .before .before .before .match .keys5) (c .before .region-of .ensures) (c .before .before .region-variable .ensures) (c .immediate-of3 .ensures) (c .before .before .before .before .register-a .ensures))
+
+register-requires-7 : tie.Need-register-requires-7
+register-requires-7 c κs = search needs
+
+immediate-of-requires-4 : tie.Need-immediate-of-requires-4
+immediate-of-requires-4 c κs = search needs
+
+free-requires : tie.Need-free-requires
+free-requires c κs = let h = (free-left _ (c .before .before .before .before .before .pre .1) (c .before .before .before .before .before .pre .2) (c .before .before .match .rest .0 .0 .0 .0 .1) (c .before .before .match .rest .0 .0 .0 .1) (c .before .before .match .rest .0 .0 .1) (c .before .before .match .rest .0 .1) (c .before .before .match .rest .1)) in sized-at (c .before .before .before .before .before .pre .0) (omega arith) (omega arith) (c .immediate-of4 .ensures)
+
+returns : tie.Need-returns
+returns c = λ m call. rw (field-is m _ _ _ _ (c .before .before .before .before .match .keys1)) (c .field .ensures call ∙ (cc))
+
+returns-2 : tie.Need-returns-2
+returns-2 c = λ m call. rw (index-is m _ _ _ _ (c .before .before .before .before .before .before .match .keys2)) (c .index .ensures call ∙ (cc))
+
+returns-3 : tie.Need-returns-3
+returns-3 c = λ m call. rw (load-is m _ _ _ _ (c .before .before .before .before .before .match .keys3)) (c .load .ensures call ∙ (cc))
+
+returns-4 : tie.Need-returns-4
+returns-4 c = λ m call. rw (store-is m _ _ _ _ (c .before .before .before .before .before .match .keys4)) (c .store .ensures call ∙ (cc))
+
+returns-5 : tie.Need-returns-5
+returns-5 c = λ m call. rw (take-is m _ _ _ _ (c .before .before .before .before .match .keys5)) (c .new .ensures call ∙ (cc))
+
+returns-6 : tie.Need-returns-6
+returns-6 c = λ m call. rw (free-is m _ _ _ _ (free-left _ (c .before .before .before .before .before .before .pre .1) (c .before .before .before .before .before .before .pre .2) (c .before .before .before .match .rest .0 .0 .0 .0 .1) (c .before .before .before .match .rest .0 .0 .0 .1) (c .before .before .before .match .rest .0 .0 .1) (c .before .before .before .match .rest .0 .1) (c .before .before .before .match .rest .1))) (c .free .ensures call ∙ (cc))
+
+pub memory-spec : {M : Type 1} → statement M
+memory-spec =
+    tie.close
+    (tie.spec
+    register-a-requires
+    register-b-requires
+    register-requires
+    immediate-of-requires
+    field-requires
+    register-b-requires-2
+    register-requires-2
+    register-c-requires
+    register-requires-3
+    immediate-of-requires-2
+    index-requires
+    register-b-requires-3
+    register-b-requires-4
+    register-requires-4
+    width-a-requires
+    load-requires
+    register-requires-5
+    width-b-requires
+    register-b-requires-5
+    register-requires-6
+    store-requires
+    region-variable-requires
+    region-of-requires
+    immediate-of-requires-3
+    new-requires
+    register-requires-7
+    immediate-of-requires-4
+    free-requires
+    returns
+    returns-2
+    returns-3
+    returns-4
+    returns-5
+    returns-6)

@@ -1,0 +1,4 @@
+-- What the effects of the code mean.
+pub mod Meaning
+pub mod Laws
+pub mod Applied
