@@ -10,6 +10,9 @@ ghost use Rattle.stack.specs.Tells.{Tells};
 ghost use Rattle.stack.specs.Facts.{Known};
 ghost use Rattle.values.specs.Value.{Narrow, mapList, typingOf};
 ghost use Rattle.values.specs.Registers.{ValueOk, RegisterOk, RegistersOk, AllRegisters, registerTerm};
+
+pub mod memory;
+
 use objects::home_of;
 use stack::regions::head;
 use state::Machine;
