@@ -3,18 +3,20 @@
 use mathlib.Core.Path.{_≡_, refl}
 use mathlib.Core.Bool.{Bool, true, false, cond}
 use mathlib.Core.List.{List, [], _∷_, _++_}
-use Prim.Native.Nat.{ℕ, _-_}
+use mathlib.Core.Logic.{inl, inr}
+use Prim.Native.Nat.{ℕ, _+_, _-_, _<_, _≤_}
 use native.Mathlib.Decide.{ℕ-discrete, decLt, decLe}
 use lib.Dec.{ltb}
-use lib.ListN.{getD, replicate}
+use lib.ListN.{length, getD, replicate}
+use Rattle.words.specs.Bytes.{Bytes, byteAt}
 use Rattle.words.specs.First.{firstFrom, first}
-use Rattle.rules.specs.Limits.{pageBytes}
+use Rattle.rules.specs.Limits.{pageBytes, mostFrames, outputBytes, stateBytes, headerEnd, ownersAt, stackEnd, spareIn, memoryAt, frameBytes}
 use Rattle.words.specs.Decide.{does, decBoth, decEither, decImp, decNot, decAll, decAny, mapDec, decList, decEach}
 use Rattle.rules.specs.Types.{region, int, ptr, decRegion, sub, decTree}
 use Rattle.rules.specs.Module.{call, return, Module}
-use Rattle.rules.specs.State.{View, memoryNumber}
+use Rattle.rules.specs.State.{View, view, memoryNumber, framePlace}
 use Rattle.rules.specs.CaseStates.{functionWith, moduleWith, wordAndPointer, to, named, Frame, frame, stateOf}
-use Rattle.rules.specs.StateTest.{decListed, decStatus, decChained, decFrames, decPage, decContents, decMarksEnd, decSpare}
+use Rattle.rules.specs.StateTest.{Passes, decListed, decStatus, decChained, decFrames, decPage, decContents, decMarksEnd, decSpare}
 use Rattle.rules.specs.Flat.{decPlaced, decPrims, beside, copiesOf, copies, subLayout, flatWith, fieldsFrom, fieldsWith, layouts, flat, decRun, positionAt}
 use Rattle.rules.specs.Heap.{decLocal, decLive, look, typeOf, decStands, decValue}
 use Rattle.rules.specs.Step.{decIsCall, decStandsAtCall}
@@ -131,11 +133,13 @@ pub record FrameTests : Type 0 where
   pub sixteen : framesPass (frame 0 1 [] (0 ∷ []) ∷ frame 0 1 [] (1 ∷ []) ∷ frame 0 1 [] (2 ∷ []) ∷ frame 0 1 [] (3 ∷ []) ∷ frame 0 1 [] (4 ∷ []) ∷ frame 0 1 [] (5 ∷ []) ∷ frame 0 1 [] (6 ∷ []) ∷ frame 0 1 [] (7 ∷ []) ∷ frame 0 1 [] (8 ∷ []) ∷ frame 0 1 [] (9 ∷ []) ∷ frame 0 1 [] (10 ∷ []) ∷ frame 0 1 [] (11 ∷ []) ∷ frame 0 1 [] (12 ∷ []) ∷ frame 0 1 [] (13 ∷ []) ∷ frame 0 1 [] (14 ∷ []) ∷ frame 0 2 [] (15 ∷ []) ∷ []) ≡ true
   pub seventeen : framesPass (frame 0 1 [] (0 ∷ []) ∷ frame 0 1 [] (1 ∷ []) ∷ frame 0 1 [] (2 ∷ []) ∷ frame 0 1 [] (3 ∷ []) ∷ frame 0 1 [] (4 ∷ []) ∷ frame 0 1 [] (5 ∷ []) ∷ frame 0 1 [] (6 ∷ []) ∷ frame 0 1 [] (7 ∷ []) ∷ frame 0 1 [] (8 ∷ []) ∷ frame 0 1 [] (9 ∷ []) ∷ frame 0 1 [] (10 ∷ []) ∷ frame 0 1 [] (11 ∷ []) ∷ frame 0 1 [] (12 ∷ []) ∷ frame 0 1 [] (13 ∷ []) ∷ frame 0 1 [] (14 ∷ []) ∷ frame 0 1 [] (15 ∷ []) ∷ frame 0 2 [] (16 ∷ []) ∷ []) ≡ false
   pub function-unknown : framesPass (frame 2 0 [] (5 ∷ []) ∷ []) ≡ false
+  pub function-unknown-lowest : does (decFrames (moduleWith [] []) (λ k. 0) (λ k. 0) (λ k i. 0) 1) ≡ false
   pub instruction-last : framesPass (frame 0 2 [] (5 ∷ []) ∷ []) ≡ true
   pub instruction-past : framesPass (frame 0 3 [] (5 ∷ []) ∷ []) ≡ false
   pub lowest-other : framesPass (frame 1 0 [] (5 ∷ 0 ∷ []) ∷ []) ≡ false
   pub at-no-call : framesPass (frame 0 2 [] (5 ∷ []) ∷ upper ∷ []) ≡ false
   pub at-another-call : framesPass (frame 0 1 [] (5 ∷ []) ∷ upper ∷ []) ≡ false
+  pub above-another-function : framesPass (lower ∷ frame 0 2 [] (3 ∷ []) ∷ []) ≡ false
   -- "each frame's map is the call's regions through the caller's map, then local regions, all different and live in no frame below"
   pub map-other : framesPass (lower ∷ frame 1 0 [] (4 ∷ 0 ∷ []) ∷ []) ≡ false
   pub local-live-below : framesPass (lower ∷ frame 1 0 [] (5 ∷ 5 ∷ []) ∷ []) ≡ false
@@ -154,11 +158,13 @@ frameTests = record {
   sixteen = refl;
   seventeen = refl;
   function-unknown = refl;
+  function-unknown-lowest = refl;
   instruction-last = refl;
   instruction-past = refl;
   lowest-other = refl;
   at-no-call = refl;
   at-another-call = refl;
+  above-another-function = refl;
   map-other = refl;
   local-live-below = refl;
   locals-different = refl;
@@ -219,4 +225,25 @@ spareTests = record {
   map-past = refl;
   mark-past = refl;
   mark-past-words = refl;
+}
+
+-- ---- the clauses on the bytes themselves: what passes has them
+
+pub record ByteTests : Type 0 where
+  -- "state not 24,576 bytes"; "output count .. in range"
+  pub size : (m : Module) (s : Bytes) → Passes m s → length s ≡ stateBytes
+  pub output-count : (m : Module) (s : Bytes) → Passes m s → view s .outputCount ≤ outputBytes
+  -- "spare bytes zero": behind the header, behind the frames, and the last of each frame
+  pub behind-header : (m : Module) (s : Bytes) → Passes m s → (i : ℕ) → headerEnd ≤ i → i < ownersAt → byteAt s i ≡ 0
+  pub behind-frames : (m : Module) (s : Bytes) → Passes m s → (i : ℕ) → stackEnd ≤ i → i < memoryAt → byteAt s i ≡ 0
+  pub frame-ends : (m : Module) (s : Bytes) → Passes m s
+      → (k : ℕ) → k < mostFrames → (i : ℕ) → framePlace k + spareIn ≤ i → i < framePlace k + frameBytes → byteAt s i ≡ 0
+
+pub byteTests : ByteTests
+byteTests = record {
+  size = λ m s h. h .size;
+  output-count = λ m s h. h .output;
+  behind-header = λ m s h i l u. h .unread i (inl (l, u));
+  behind-frames = λ m s h i l u. h .unread i (inr (inl (l, u)));
+  frame-ends = λ m s h k b i l u. h .unread i (inr (inr (record { frame = k; below = b; low = l; high = u })));
 }
