@@ -24,3 +24,4 @@ pub mod ForCode
 pub mod Audit
 pub mod Unowned
 pub mod Instance
+pub mod Worked
