@@ -2,7 +2,7 @@
 //! of 1 to 64 blocks that are full of instructions of every form. Built with the feature `librcm`
 //! and the folder of `librcm.a` in RCM_LIB_DIR.
 
-use reference::builder::{code, FunctionBuilder, ModuleBuilder};
+use reference::builder::{code, file, record, FunctionBuilder, ModuleBuilder};
 use reference::file::Record;
 use reference::host::{self, Answer};
 use std::hint::black_box;
@@ -41,7 +41,7 @@ fn body() -> Vec<Record> {
     records
 }
 
-/// A module whose functions fill about `blocks` blocks.
+/// A module of `blocks` blocks, nearly all of it code, the rest filler.
 fn module(blocks: usize) -> Vec<u8> {
     let mut module = ModuleBuilder::new();
     let i32_term = module.integer(4);
@@ -81,7 +81,9 @@ fn module(blocks: usize) -> Vec<u8> {
     for _ in 1..functions {
         module.function(&filled(1));
     }
-    module.file()
+    let mut records = module.records();
+    records.resize(blocks * 63, record(0, 0, 0, 0, 0));
+    file(&records)
 }
 
 /// The shortest of several rounds of so many calls.
