@@ -3,3 +3,4 @@ pub mod Table
 pub mod TableLaws
 pub mod Positions
 pub mod Runs
+pub mod Maps

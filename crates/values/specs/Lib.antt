@@ -4,4 +4,3 @@ pub mod Registers
 pub mod Memory
 pub mod Passes
 pub mod Pages
-pub mod Narrow

@@ -21,7 +21,8 @@ use Rattle.runs.specs.Runs.{StandsIs}
 use Rattle.stack.specs.Tells.{Tells, tells-map, tells-or, tells-eq, does-tells}
 use Rattle.objects.specs.Homes.{regionTree, HomeIs}
 use Rattle.objects.specs.declared.Home.{Home}
-use Rattle.values.specs.Value.{Narrow, mapList, typingOf, under-close}
+use Rattle.runs.specs.Maps.{Narrow, mapList, under-close}
+use Rattle.values.specs.Value.{typingOf}
 
 -- ---- numbers in the pages
 

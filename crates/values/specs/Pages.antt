@@ -15,23 +15,13 @@ use Rattle.rules.specs.Flat.{Placed, at, Layout, count, flat, flatWith, size}
 use Rattle.rules.specs.Decode.{moduleOf}
 use Rattle.rules.specs.State.{view, pageOwner, memoryNumber}
 use Rattle.rules.specs.StateTest.{PrimitiveOk, PageOk}
+use Rattle.layout.specs.Lists.{each-at}
 use Rattle.layout.specs.Prims.{nth}
+use Rattle.runs.specs.Maps.{each-of}
 use Rattle.stack.specs.Tells.{Tells, tells-map}
 use Rattle.objects.specs.Homes.{regionTree, HomeIs}
 use Rattle.objects.specs.declared.Home.{Home}
 use Rattle.values.specs.Passes.{AllPrimitives}
-
--- ---- each element of a list, by its index
-
-module _ {A : Type 0} {P : A → Type 0} (d : A) where
-  pub each-at : (l : List A) → Each P l → (i : ℕ) → i < length l → P (getD l i d)
-  each-at [] e i h = absurd (omega arith)
-  each-at (x ∷ l) (more p e) zero h = p
-  each-at (x ∷ l) (more p e) (suc i) h = each-at l e i (omega arith)
-
-  pub each-of : (l : List A) → ((i : ℕ) → i < length l → P (getD l i d)) → Each P l
-  each-of [] h = none
-  each-of (x ∷ l) h = more (h 0 (omega arith)) (each-of l (λ i k. h (suc i) (omega arith)))
 
 -- ---- of page p, whose region has type T, of n frames
 
@@ -51,7 +41,7 @@ pub place-by : {f s : Bytes} {n p j : ℕ} {T : Tree live} {b : Bool} → size (
 place-by {f} {s} {n} {p} {j} {T} h t =
     tells-map
     (λ w. record { is = λ l. each-of (at 0 (int 0)) (flat (moduleOf f) T .prims) (λ i k. w i k .is) })
-    (λ w i k. record { is = each-at (at 0 (int 0)) (flat (moduleOf f) T .prims) (w .is h) i k })
+    (λ w i k. record { is = each-at i (at 0 (int 0)) k (w .is h) })
     t
 
 pub page-none : {f s : Bytes} {n p o : ℕ} → o ≡ pageOwner s p → o ≡ 0 → PagePrimitives f s n p

@@ -20,29 +20,14 @@ use Rattle.rules.specs.Heap.{close, HeapTyping, heapTyping, Stands, decStands, 
 use Rattle.layout.specs.Types.{sub-agree}
 use Rattle.terms.specs.Compare.{under, under-is}
 use Rattle.runs.specs.Runs.{StandsIs}
+use Rattle.runs.specs.Maps.{Narrow, mapList, under-close}
 use Rattle.stack.specs.Tells.{Tells, tells-map, tells-no, tells-yes, tells-or, tells-eq, tells-lt, does-tells}
 use Rattle.objects.specs.Homes.{regionTree, HomeIs}
 use Rattle.objects.specs.declared.Home.{Home}
 
--- no term of the file writes a region variable above 6: refusal 4 has made sure of it
-abbrev pub Narrow : Bytes → Type 0
-Narrow f = (t : ℕ) → Uses mostRegions (moduleOf f .term t)
-
--- frame k's map as a list of bytes
-unfoldable pub mapList : Bytes → ℕ → Bytes
-mapList s k = listOf (frameMap s k) mostRegions
-
 -- n frames of a state
 abbrev pub typingOf : Bytes → Bytes → ℕ → HeapTyping
 typingOf f s n = heapTyping (moduleOf f) (view s) n
-
--- ---- the map as a substitution
-
-pub under-close : (s : Bytes) (k : ℕ) (T : Tree variable) → Uses mostRegions T → sub (under {k = live} (mapList s k)) T ≡ close (frameMap s k) T
-unfolding mapList
-under-close s k T u =
-    sub-agree mostRegions (under (listOf (frameMap s k) mostRegions)) (λ r. region (frameMap s k (r .number))) T u
-    (λ r h. under-is (listOf (frameMap s k) mostRegions) r ∙ ap region (getD-listOf (frameMap s k) mostRegions (r .number) nowhere h))
 
 -- ---- by the form
 
@@ -96,11 +81,6 @@ module _ {f s : Bytes} {n r : ℕ} {h : Home} (home : HomeIs f s n r h) where
       rw tq at (does-tells (decStands (moduleOf f) (typingOf f s n) (sub (under q) (moduleOf f .term t)) r a) e)
 
 -- ---- what the code reads
-
-pub map-is : (s : Bytes) (k : ℕ) {a b c d e f g : ℕ} → a ≡ frameMap s k 0 → b ≡ frameMap s k 1 → c ≡ frameMap s k 2 → d ≡ frameMap s k 3 → e ≡ frameMap s k 4
-    → f ≡ frameMap s k 5 → g ≡ frameMap s k 6 → a ∷ b ∷ c ∷ d ∷ e ∷ f ∷ g ∷ [] ≡ mapList s k
-unfolding mapList listFrom
-map-is s k ea eb ec ed ee ef eg = rw (ea, eb, ec, ed, ee, ef, eg)
 
 four : (w : ℕ) → w ≢ 0 → w ≢ 1 → w ≢ 2 → w ≢ 3 → 4 ≤ w
 four zero a b c d = absurd (a refl)

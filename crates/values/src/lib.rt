@@ -8,7 +8,8 @@ ghost use Rattle.rules.specs.Heap.{close, Stands};
 ghost use Rattle.runs.specs.Table.{Table};
 ghost use Rattle.stack.specs.Tells.{Tells};
 ghost use Rattle.stack.specs.Facts.{Known};
-ghost use Rattle.values.specs.Value.{Narrow, mapList, typingOf};
+ghost use Rattle.runs.specs.Maps.{Narrow, mapList};
+ghost use Rattle.values.specs.Value.{typingOf};
 ghost use Rattle.values.specs.Registers.{ValueOk, RegisterOk, RegistersOk, AllRegisters, registerTerm};
 
 pub mod memory;

@@ -1,6 +1,6 @@
 -- `values::map_of` meets its contract: its seven entries. Assumes nothing.
 use native.Mathlib.Omega.{arith}
-use Rattle.values.specs.Value.{map-is}
+use Rattle.runs.specs.Maps.{map-is}
 use borrow.Author.Needs.{needs}
 use Rattle.values.proofs.map_of.Statement.{statement}
 use Rattle.values.proofs.map_of.Tie as tie

@@ -18,8 +18,7 @@ use Rattle.rules.specs.Types.{variable, Variable, region, nowhere, Tree, int, p
 use Rattle.rules.specs.Decode.{noTree, regionBytes, treeOf, treesOf, moduleOf}
 use Rattle.rules.specs.declared.Record.{Record}
 use Rattle.typing.specs.Lists.{getD-left, getD-last, getD-past}
-use Rattle.values.specs.Value.{Narrow}
-use Rattle.values.specs.Pages.{each-of}
+use Rattle.runs.specs.Maps.{Narrow, each-of}
 
 -- "region variable b (0-6)"; "region arguments .., each 0-6"
 pub record RegionsFit (x : Record) : Type 0 where
