@@ -6,6 +6,7 @@ use crate::generator::{draw, Sample};
 use crate::host::{self, Answer};
 use crate::prng::Prng;
 use crate::state::{OUTPUT_BYTES, STATE_BYTES};
+use std::collections::BTreeMap;
 
 /// The five calls over byte slices, as in the C interface.
 pub trait Interface {
@@ -55,12 +56,13 @@ impl Interface for Reference {
     }
 }
 
-/// The calls of one kind that were compared, and the first difference of each module.
+/// What was compared, how often each answer occurred, and the first difference of each module.
 #[derive(Default, Debug)]
 pub struct Comparison {
     pub modules: u64,
     pub calls: u64,
     pub steps: u64,
+    pub answers: BTreeMap<String, u64>,
     pub differences: Vec<String>,
 }
 
@@ -72,6 +74,19 @@ struct Pair<'i, I> {
     output: [Vec<u8>; 2],
     calls: u64,
     steps: u64,
+    answers: BTreeMap<String, u64>,
+}
+
+/// An answer without its values, in words.
+fn named(answer: Answer) -> String {
+    match answer[0] {
+        host::REFUSED if answer[1] == 0 => "no object".to_string(),
+        host::REFUSED => format!("refused {}", answer[1]),
+        host::ENDED => "ended".to_string(),
+        host::STOPPED => format!("stopped {}", answer[1]),
+        host::STILL_RUNNING => "running".to_string(),
+        _ => "accepted, opened, passed or found".to_string(),
+    }
 }
 
 /// Compares on modules number `from` to `to` of a seed. A module's number repeats it alone.
@@ -89,6 +104,7 @@ pub fn compare<I: Interface>(other: &mut I, seed: u64, from: u64, to: u64) -> Co
             output: [vec![0; OUTPUT_BYTES], vec![0; OUTPUT_BYTES]],
             calls: 0,
             steps: 0,
+            answers: BTreeMap::new(),
         };
         if let Err(difference) = pair.module(&mut rng, &sample) {
             comparison.differences.push(format!("seed {seed} module {number}: {difference}"));
@@ -96,6 +112,9 @@ pub fn compare<I: Interface>(other: &mut I, seed: u64, from: u64, to: u64) -> Co
         comparison.modules += 1;
         comparison.calls += pair.calls;
         comparison.steps += pair.steps;
+        for (answer, count) in pair.answers {
+            *comparison.answers.entry(answer).or_default() += count;
+        }
     }
     comparison
 }
@@ -103,6 +122,7 @@ pub fn compare<I: Interface>(other: &mut I, seed: u64, from: u64, to: u64) -> Co
 impl<I: Interface> Pair<'_, I> {
     fn equal(&mut self, call: &str, here: Answer, other: Answer) -> Result<Answer, String> {
         self.calls += 1;
+        *self.answers.entry(named(here)).or_default() += 1;
         if here != other {
             return Err(format!("{call}: here {here:?}, other {other:?}"));
         }

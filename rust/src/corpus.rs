@@ -1,6 +1,7 @@
 //! Reads and runs files of cases with expected answers: the verdict on a module, opening, calls
 //! of going on, and the reader of states.
 
+use crate::calls;
 use crate::generator::Sample;
 use crate::host::{self, Answer};
 use crate::prng::Prng;
@@ -54,7 +55,7 @@ impl Case {
                 Some(line.to_string())
             }
             "check" => {
-                let answer = host::check(&self.module);
+                let answer = calls::check(&self.module);
                 let verdict = match answer[0] {
                     host::REFUSED => refusal(answer),
                     _ => {
@@ -67,7 +68,7 @@ impl Case {
             }
             "open" => {
                 let arguments = unhex(words.get(1)?)?;
-                let answer = host::open(&self.module, &arguments, &mut self.state);
+                let answer = calls::open(&self.module, &arguments, &mut self.state);
                 let opened =
                     if answer[0] == host::GOOD { "opened".to_string() } else { refusal(answer) };
                 Some(format!("open {} {opened}", words[1]))
@@ -76,7 +77,7 @@ impl Case {
                 let budget = words.get(1)?.parse().ok()?;
                 let form = unhex(words.get(2)?)?;
                 let Case { module, state, output } = self;
-                let answer = host::go(module, &form, state, output, budget);
+                let answer = calls::go(module, &form, state, output, budget);
                 let went = match answer[0] {
                     host::REFUSED => refusal(answer),
                     host::ENDED => format!("ended {} {}", answer[1], answer[2]),
@@ -89,7 +90,7 @@ impl Case {
             }
             "object" => {
                 let address = words.get(1)?.parse().ok()?;
-                let answer = host::object(&self.module, &self.state, address);
+                let answer = calls::object(&self.module, &self.state, address);
                 let found = match answer[0] {
                     host::REFUSED => "none".to_string(),
                     _ => {

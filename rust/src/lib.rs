@@ -3,6 +3,7 @@
 //! as a difference between the two.
 
 pub mod builder;
+pub mod calls;
 pub mod checker;
 pub mod compare;
 pub mod corpus;
@@ -10,6 +11,8 @@ pub mod damage;
 pub mod file;
 pub mod generator;
 pub mod host;
+#[cfg(feature = "librcm")]
+pub mod library;
 pub mod machine;
 pub mod module;
 pub mod prng;

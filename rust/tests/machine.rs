@@ -5,6 +5,7 @@ mod common;
 
 use common::{integers, main_function, run, Session, I16, I32, I8};
 use reference::builder::{code, file, record, FunctionBuilder, ModuleBuilder};
+use reference::calls;
 use reference::file::{block_check, Record};
 use reference::host::{self, Answer};
 use reference::module::decode;
@@ -54,7 +55,7 @@ fn worked_module() {
     ];
     let file = file(&records);
     assert_eq!(block_check(&file), 3474);
-    assert_eq!(host::check(&file), [host::GOOD, 1, 0, 65_536 + 2]);
+    assert_eq!(calls::check(&file), [host::GOOD, 1, 0, 65_536 + 2]);
     assert_eq!(Session::open(file, &[]).go(1_000_000), ended(42, 2));
 }
 
@@ -466,25 +467,25 @@ fn refusals_of_the_calls() {
     let mut state = vec![5; 24_576];
     let refused = |number: u64| [host::REFUSED, number, 0, 0];
     // 9 before 20, and nothing changes.
-    assert_eq!(host::open(&file, &[0; 7], &mut state), refused(9));
-    assert_eq!(host::open(&file, &[0; 9], &mut state[1..]), refused(9));
-    assert_eq!(host::open(&file, &[0; 8], &mut state[1..]), refused(20));
+    assert_eq!(calls::open(&file, &[0; 7], &mut state), refused(9));
+    assert_eq!(calls::open(&file, &[0; 9], &mut state[1..]), refused(9));
+    assert_eq!(calls::open(&file, &[0; 8], &mut state[1..]), refused(20));
     assert!(state.iter().all(|&byte| byte == 5));
-    assert_eq!(host::open(&file, &[1, 2, 3, 4, 5, 6, 7, 8], &mut state)[0], host::GOOD);
+    assert_eq!(calls::open(&file, &[1, 2, 3, 4, 5, 6, 7, 8], &mut state)[0], host::GOOD);
     let mut output = vec![3; 4096];
     let opened = state.clone();
     let long = vec![0; 4097];
-    assert_eq!(host::go(&file, &long, &mut state, &mut output[1..], 1), refused(9));
-    assert_eq!(host::go(&file, &[], &mut state[1..], &mut output, 1), refused(20));
-    assert_eq!(host::go(&file, &[], &mut state, &mut output[1..], 1), refused(20));
-    assert_eq!(host::go(&file[1..], &long, &mut state, &mut output, 1), refused(1));
-    assert_eq!(host::test(&file, &state[1..]), refused(20));
-    assert_eq!(host::object(&file, &state[1..], 256), [0; 4]);
+    assert_eq!(calls::go(&file, &long, &mut state, &mut output[1..], 1), refused(9));
+    assert_eq!(calls::go(&file, &[], &mut state[1..], &mut output, 1), refused(20));
+    assert_eq!(calls::go(&file, &[], &mut state, &mut output[1..], 1), refused(20));
+    assert_eq!(calls::go(&file[1..], &long, &mut state, &mut output, 1), refused(1));
+    assert_eq!(calls::test(&file, &state[1..]), refused(20));
+    assert_eq!(calls::object(&file, &state[1..], 256), [0; 4]);
     assert!(state == opened && output.iter().all(|&byte| byte == 3));
     let full = vec![0; 4096];
-    let answer = host::go(&file, &full, &mut state, &mut output, 1);
+    let answer = calls::go(&file, &full, &mut state, &mut output, 1);
     assert_eq!(answer, ended(0x0403_0201, 1));
     // A long form on an ended state is 9.
-    assert_eq!(host::go(&file, &long, &mut state, &mut output, 0), refused(9));
-    assert_eq!(host::go(&file, &full, &mut state, &mut output, 0), refused(22));
+    assert_eq!(calls::go(&file, &long, &mut state, &mut output, 0), refused(9));
+    assert_eq!(calls::go(&file, &full, &mut state, &mut output, 0), refused(22));
 }

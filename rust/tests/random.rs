@@ -2,6 +2,7 @@
 //! state passes the state test after every step, pages are accounted for, no step changes other
 //! bytes than its own, and states changed by hand are refused or go on soundly.
 
+use reference::calls;
 use reference::damage::{change_state, damage};
 use reference::file::Refusal;
 use reference::generator::{draw, Sample};
@@ -30,7 +31,7 @@ impl Session {
             state: vec![0xa5; STATE_BYTES],
             output: vec![0; OUTPUT_BYTES],
         };
-        let opened = host::open(&session.file, &sample.arguments, &mut session.state);
+        let opened = calls::open(&session.file, &sample.arguments, &mut session.state);
         assert_eq!(opened, [host::GOOD, 0, 0, 0]);
         session
     }
@@ -44,7 +45,7 @@ impl Session {
     fn go_and_test(&mut self, budget: u64) -> Run {
         let owned = self.owned_pages();
         let run = self.go(budget).expect("a running state goes on");
-        assert_eq!(host::test(&self.file, &self.state), [host::GOOD, 0, 0, 0]);
+        assert_eq!(calls::test(&self.file, &self.state), [host::GOOD, 0, 0, 0]);
         let view = State::from_bytes(&self.state).expect("a state");
         assert_eq!(view.to_bytes(), self.state);
         assert_eq!(self.owned_pages() + run.handed_back, owned + run.granted);
@@ -174,13 +175,13 @@ fn changed_states_are_refused_or_go_on_soundly() {
             change_state(&mut rng, &mut session.state);
         }
         let changed = session.clone();
-        match host::test(&session.file, &session.state) {
+        match calls::test(&session.file, &session.state) {
             [host::REFUSED, 21, 0, 0] => {
                 refused += 1;
                 assert_eq!(session.go(10), Err(Refusal { number: 21, place: 0 }));
                 assert!(session.state == changed.state && session.output == changed.output);
                 let address = rng.below(20_000) as u32;
-                assert_eq!(host::object(&session.file, &session.state, address), [0; 4]);
+                assert_eq!(calls::object(&session.file, &session.state, address), [0; 4]);
             }
             answer => {
                 passed += 1;
@@ -202,16 +203,16 @@ fn damaged_modules_change_nothing() {
         let sample = draw(&mut rng);
         let mut session = Session::open(&sample);
         session.file = damage(&mut rng, sample.records.clone());
-        let verdict = host::check(&session.file);
+        let verdict = calls::check(&session.file);
         if verdict[0] != host::REFUSED {
             continue;
         }
         let before = session.clone();
         let Session { file, form, state, output } = &mut session;
-        assert_eq!(host::open(file, &sample.arguments, state), verdict);
-        assert_eq!(host::go(file, form, state, output, 100), verdict);
-        assert_eq!(host::test(file, state), verdict);
-        assert_eq!(host::object(file, state, 256), [0; 4]);
+        assert_eq!(calls::open(file, &sample.arguments, state), verdict);
+        assert_eq!(calls::go(file, form, state, output, 100), verdict);
+        assert_eq!(calls::test(file, state), verdict);
+        assert_eq!(calls::object(file, state, 256), [0; 4]);
         assert!(*state == before.state && *output == before.output);
     }
 }
@@ -230,8 +231,8 @@ fn arbitrary_bytes_are_answered() {
         }
         reference::builder::repair_checks(&mut file);
         let mut state = rng.bytes(STATE_BYTES);
-        assert_eq!(host::check(&file)[0], host::REFUSED);
-        assert_eq!(host::test(&file, &state)[0], host::REFUSED);
-        assert_eq!(host::open(&file, &[], &mut state)[0], host::REFUSED);
+        assert_eq!(calls::check(&file)[0], host::REFUSED);
+        assert_eq!(calls::test(&file, &state)[0], host::REFUSED);
+        assert_eq!(calls::open(&file, &[], &mut state)[0], host::REFUSED);
     }
 }

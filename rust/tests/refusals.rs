@@ -3,6 +3,7 @@
 
 use reference::builder::{code, file, list_record, packed, record, repair_checks};
 use reference::builder::{FunctionBuilder, ModuleBuilder};
+use reference::calls;
 use reference::file::Record;
 use reference::host;
 
@@ -11,7 +12,7 @@ const I8: u8 = 1;
 const I16: u8 = 2;
 
 fn verdict(records: &[Record]) -> (u64, u64) {
-    let answer = host::check(&file(records));
+    let answer = calls::check(&file(records));
     match answer[0] {
         host::REFUSED => (answer[1], answer[2]),
         _ => (0, 0),
@@ -90,13 +91,13 @@ fn byte(place: usize, index: usize, value: u8) -> (u64, u64) {
 
 #[test]
 fn the_base_is_accepted() {
-    assert_eq!(host::check(&file(&base())), [host::GOOD, 7, 1, 2 * 65_536 + 8]);
+    assert_eq!(calls::check(&file(&base())), [host::GOOD, 7, 1, 2 * 65_536 + 8]);
 }
 
 #[test]
 fn refusal_1_length() {
     let whole = file(&base());
-    let refused = |file: &[u8]| assert_eq!(host::check(file), [0, 1, 0, 0]);
+    let refused = |file: &[u8]| assert_eq!(calls::check(file), [0, 1, 0, 0]);
     refused(&[]);
     refused(&whole[..511]);
     refused(&[&whole[..], &[0]].concat());
@@ -116,7 +117,7 @@ fn refusals_2_and_3_go_block_by_block() {
         if repair {
             repair_checks(&mut file);
         }
-        let answer = host::check(&file);
+        let answer = calls::check(&file);
         (answer[1], answer[2])
     };
     assert_eq!(with(0, 1, true), (2, 0));
@@ -132,7 +133,7 @@ fn refusals_2_and_3_go_block_by_block() {
     let mut both = whole.clone();
     both[512] = 0;
     both[508] ^= 1;
-    assert_eq!(host::check(&both)[1..3], [3, 0]);
+    assert_eq!(calls::check(&both)[1..3], [3, 0]);
 }
 
 #[test]

@@ -5,6 +5,7 @@ mod common;
 
 use common::{integers, main_function, Session, I32};
 use reference::builder::{code, FunctionBuilder};
+use reference::calls;
 use reference::host;
 use reference::state::{State, STATE_BYTES};
 
@@ -217,7 +218,7 @@ fn local_regions_of_one_frame_differ() {
     // A frame alone whose two local regions are one: no page is owned.
     let mut session = base();
     let mut fresh = session.clone();
-    assert_eq!(host::open(&session.file, &[], &mut fresh.state)[0], host::GOOD);
+    assert_eq!(calls::open(&session.file, &[], &mut fresh.state)[0], host::GOOD);
     session.state = fresh.state.clone();
     session.state[FRAME_0 + MAP + 1] = 0;
     assert_eq!(session.test()[1], 21);
@@ -233,7 +234,7 @@ fn local_regions_of_one_frame_differ() {
 #[test]
 fn the_lowest_numbers_not_live_are_taken() {
     let mut session = base();
-    assert_eq!(host::open(&session.file, &[], &mut session.state)[0], host::GOOD);
+    assert_eq!(calls::open(&session.file, &[], &mut session.state)[0], host::GOOD);
     (session.state[FRAME_0 + MAP], session.state[FRAME_0 + MAP + 1]) = (111, 0);
     assert_eq!(session.go(3), [host::STILL_RUNNING, 0, 3, 0]);
     assert_eq!(session.state[FRAME_1 + MAP..FRAME_1 + MAP + 7], [0, 111, 1, 0, 0, 0, 0]);
@@ -343,7 +344,7 @@ fn spare_bytes() {
 fn odd_states_that_pass() {
     // Stopped with one frame, at its first instruction.
     let mut session = base();
-    assert_eq!(host::open(&session.file, &[], &mut session.state)[0], host::GOOD);
+    assert_eq!(calls::open(&session.file, &[], &mut session.state)[0], host::GOOD);
     session.state[STATUS] = 39;
     assert!(session.passes());
     assert_eq!(session.go(0), [host::REFUSED, 22, 0, 0]);
@@ -354,7 +355,7 @@ fn odd_states_that_pass() {
     assert_eq!(session.go(1), [host::STILL_RUNNING, 0, 1, 0]);
     assert_eq!(session.state[FRAMES], 2);
     // A state of another length is 20, after the module's refusals.
-    assert_eq!(host::test(&session.file, &session.state[1..]), [host::REFUSED, 20, 0, 0]);
+    assert_eq!(calls::test(&session.file, &session.state[1..]), [host::REFUSED, 20, 0, 0]);
     assert_eq!(State::from_bytes(&[0; STATE_BYTES - 1]).err(), Some(reference::state::Malformed));
 }
 

@@ -3,29 +3,17 @@
 //! are named by RCM_CORPUS (a folder; by default tests/corpus). Prints how often each verdict occurs.
 //! Built with the feature `librcm` and the folder of `librcm.a` in RCM_LIB_DIR.
 
+use reference::compare::Interface;
 use reference::corpus::case_files;
 use reference::damage::damage;
 use reference::generator::draw;
 use reference::host::{self, Answer};
+use reference::library::Library;
 use reference::prng::Prng;
 use std::collections::BTreeMap;
 use std::path::PathBuf;
 use std::process::ExitCode;
 use std::time::{Duration, Instant};
-
-extern "C" {
-    fn rcm_check(file: *const u8, file_len: usize, answer: *mut u64);
-}
-
-/// An answer that no call gives, so that entries left unwritten show.
-const UNWRITTEN: Answer = [u64::MAX; 4];
-
-fn library_check(file: &[u8]) -> Answer {
-    let mut answer = UNWRITTEN;
-    // The slice is valid for its length, not null and apart from the answer.
-    unsafe { rcm_check(file.as_ptr(), file.len(), answer.as_mut_ptr()) };
-    answer
-}
 
 fn verdict(answer: Answer) -> String {
     match answer[0] {
@@ -66,7 +54,7 @@ fn main() -> ExitCode {
         let here = host::check(file);
         times[0] += start.elapsed();
         let start = Instant::now();
-        let other = library_check(file);
+        let other = Library.check(file);
         times[1] += start.elapsed();
         if here != other {
             differences += 1;

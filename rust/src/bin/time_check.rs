@@ -3,20 +3,15 @@
 //! and the folder of `librcm.a` in RCM_LIB_DIR.
 
 use reference::builder::{code, file, record, FunctionBuilder, ModuleBuilder};
+use reference::compare::Interface;
 use reference::file::Record;
 use reference::host::{self, Answer};
+use reference::library::Library;
 use std::hint::black_box;
 use std::time::{Duration, Instant};
 
-extern "C" {
-    fn rcm_check(file: *const u8, file_len: usize, answer: *mut u64);
-}
-
 fn library_check(file: &[u8]) -> Answer {
-    let mut answer = [u64::MAX; 4];
-    // The slice is valid for its length, not null and apart from the answer.
-    unsafe { rcm_check(file.as_ptr(), file.len(), answer.as_mut_ptr()) };
-    answer
+    Library.check(file)
 }
 
 /// Arithmetic, memory and control over registers i32, i8, pointer to a pair, pointer to its first

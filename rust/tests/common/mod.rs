@@ -3,6 +3,7 @@
 #![allow(dead_code)]
 
 use reference::builder::{FunctionBuilder, ModuleBuilder};
+use reference::calls;
 use reference::file::Record;
 use reference::host::{self, Answer};
 use reference::state::{State, OUTPUT_BYTES, STATE_BYTES};
@@ -42,8 +43,8 @@ impl Session {
     pub fn open(file: Vec<u8>, arguments: &[u32]) -> Session {
         let mut state = vec![0xee; STATE_BYTES];
         let bytes: Vec<u8> = arguments.iter().flat_map(|word| word.to_le_bytes()).collect();
-        assert_eq!(host::check(&file)[0], host::GOOD, "{:?}", host::check(&file));
-        assert_eq!(host::open(&file, &bytes, &mut state), [host::GOOD, 0, 0, 0]);
+        assert_eq!(calls::check(&file)[0], host::GOOD, "{:?}", calls::check(&file));
+        assert_eq!(calls::open(&file, &bytes, &mut state), [host::GOOD, 0, 0, 0]);
         Session { file, state, output: vec![0; OUTPUT_BYTES] }
     }
 
@@ -52,11 +53,11 @@ impl Session {
     }
 
     pub fn go_with(&mut self, form: &[u8], budget: u64) -> Answer {
-        host::go(&self.file, form, &mut self.state, &mut self.output, budget)
+        calls::go(&self.file, form, &mut self.state, &mut self.output, budget)
     }
 
     pub fn test(&self) -> Answer {
-        host::test(&self.file, &self.state)
+        calls::test(&self.file, &self.state)
     }
 
     pub fn passes(&self) -> bool {
@@ -64,7 +65,7 @@ impl Session {
     }
 
     pub fn object(&self, address: u32) -> Option<(u64, u64)> {
-        let answer = host::object(&self.file, &self.state, address);
+        let answer = calls::object(&self.file, &self.state, address);
         (answer[0] == host::GOOD).then(|| (answer[1] - 8192, answer[2]))
     }
 
