@@ -25,3 +25,4 @@ pub mod Audit
 pub mod Unowned
 pub mod Instance
 pub mod Worked
+pub mod Machines

@@ -40,17 +40,17 @@ same-file : CasesFile.worked ≡ workedFile
 unfolding little CasesFile.worked CasesFile.workedRecords CasesFile.file CasesFile.fileOf CasesFile.recordsBytes
 same-file = refl
 
-accepted-worked : IsAccepted (verdictOf workedFile)
+pub accepted-worked : IsAccepted (verdictOf workedFile)
 accepted-worked = subst (λ (f : Bytes). IsAccepted (verdictOf f)) same-file some-accepted
 
-no-bytes : AllBytes []
+pub no-bytes : AllBytes []
 no-bytes i = omega arith
 
 -- its run, with an empty form and an output of zeros, for a million steps at most
 pub worked-ran : Trace
 worked-ran = runOf (moduleOf workedFile) [] 1000000 (firstState (moduleOf workedFile) []) (replicate outputBytes 0)
 
-worked-outcome : outcomeOf (view (worked-ran .state)) ≡ ended 42
+pub worked-outcome : outcomeOf (view (worked-ran .state)) ≡ ended 42
 unfolding worked-ran bit withBit number little splice listFrom firstFrom first decBoth decEither decImp decNot decAll decAny decThe mapDec decList decEach decRegion sub decTree decPlaced decPrims beside copiesOf copies subLayout flatWith fieldsFrom fieldsWith layouts flat decRun positionAt decSame asInt asPtr asArr decReg withInt withPtr anInt aPtr decConstant decCopy decOperate decZero decSigned decAddress decCheck decField decIndex decThrough decLoad decStore decWhole decNew decFree decInput decOutput decJump decBranch decCall decReturn decTyped frameFunction frameInstruction frameRegister frameMap pageOwner pageMark memoryByte view memoryNumber written wordsOf frameOf decLocal decLive localList liveList look typeOf decStands decValue operationOf flag valueIf leftBy rightBy magnitude nearestOf signedBy nearestBy biased operated signExtended need onInt onPtr onArr decIsCall decStandsAtCall onCall isIn lowest lowestNumbers decHome unusedPlace hasRoom roomPage unownedPage allocate notZero computed decHeld calleeMap calleeRegisters returned exec effectAt effectOf closedPages closing leaving stateWrites outputWrites applyState applyOutput runOf stuckSteps decCounts decTerm decStruct structFlat decUses regionBytes treeOf treesOf fieldsOf places codePlaces callOf arithmeticOf memoryOf controlOf byGroup instructionOf codeOf functionOf moduleOf records recordStart recordOf groupOf toCode toRegisters openedFunction done toFunction toName step next nextScan scan whole outcomeOf wentOf firstRegister firstState objectIn ℕ-discrete decLt decLe
 worked-outcome = refl
 
