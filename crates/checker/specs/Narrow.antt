@@ -1,18 +1,18 @@
 -- Regions of terms, from what refusal 4 asks of each term's record. Assumes nothing but that the records fit, where it says so.
-use mathlib.Core.Path.{_≡_, refl, sym, ap, _∙_}
-use mathlib.Core.Bool.{Bool, true, false, cond, _&&_}
+use mathlib.Core.Path.{_≡_}
+use mathlib.Core.Bool.{true, _&&_}
 use mathlib.Core.List.{List, [], _∷_, _++_}
-use Prim.Native.Nat.{ℕ, zero, suc, _/_, _%_, _<_, _≤_}
+use Prim.Native.Nat.{ℕ, zero, suc, _<_}
 use native.Mathlib.Decide.{decLt}
 use native.Mathlib.Omega.{arith}
-use lib.Dec.{eqb, ltb}
+use lib.Dec.{eqb}
 use lib.ListN.{length, getD, length-append}
 use borrow.Author.Tests.{eqb-true, ltb-true, lt-ltb}
 use Rattle.words.specs.Bytes.{Bytes, listOf}
 use Rattle.words.specs.ByteLaws.{length-listOf, getD-listOf}
 use Rattle.words.specs.Choose.{both, cond-split}
 use Rattle.words.specs.Decide.{Each}
-use Rattle.rules.specs.Limits.{mostRegions, mostRegionParams}
+use Rattle.rules.specs.Limits.{mostRegions}
 use Rattle.rules.specs.File.{recordOf, byteOfD, kindInteger, kindPointer, kindArray}
 use Rattle.rules.specs.Types.{variable, Variable, region, nowhere, Tree, int, ptr, arr, struct, Uses, in-int, in-ptr, in-arr, in-struct}
 use Rattle.rules.specs.Decode.{noTree, regionBytes, treeOf, treesOf, moduleOf}

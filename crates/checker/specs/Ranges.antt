@@ -1,10 +1,9 @@
 -- What a file whose records fit, and whose functions keep refusal 6's rules, gives to the code behind: terms in range, counts, types that
 -- use few regions. Assumes nothing but that, where it says so.
 use mathlib.Core.Path.{_≡_, refl, sym, ap, _∙_, subst}
-use mathlib.Core.Bool.{Bool, true, false, cond, not, _&&_, _||_, true≢false}
+use mathlib.Core.Bool.{Bool, true, false, cond, not, _&&_, _||_}
 use mathlib.Core.Logic.{_⊎_, inl, inr, ⊎-elim}
-use mathlib.Core.List.{List}
-use Prim.Native.Nat.{ℕ, zero, suc, _+_, _*_, _-_, _/_, _%_, _<_, _≤_}
+use Prim.Native.Nat.{ℕ, zero, suc, _+_, _*_, _-_, _%_, _<_, _≤_}
 use native.Mathlib.Decide.{ℕ-discrete}
 use native.Mathlib.Omega.{arith}
 use lib.Dec.{ltb, leb, eqb}
@@ -15,8 +14,8 @@ use Rattle.words.specs.Choose.{both, either, cond-split}
 use Rattle.rules.specs.Limits.{mostRegions, mostRegionParams, mostEntries, mostTerms, sizeLimit, blockBytes, mostBlocks}
 use Rattle.rules.specs.File.{records, blocks, lengthRight, recordOf, regionsOf, isTerm, isInstruction, kindInteger, kindPointer, kindArray, kindStruct, kindName, kindFields, kindFunction, kindFiller, kindRegions, kindRegisters, kindCall, kindArguments, within}
 use Rattle.rules.specs.Walk.{to, toCode, toRegisters, headed, opened, toTerm, named, done, called, toFunction, toName, step, next, Scan, nextScan, scan, whole, namesEnd}
-use Rattle.rules.specs.Records.{four, integerFits, pointerFits, arrayFits, structFits, termFits, nameFits, functionFits, fitsIn, fits, recordTest}
-use Rattle.rules.specs.Module.{Function, regions}
+use Rattle.rules.specs.Records.{four, integerFits, pointerFits, arrayFits, structFits, termFits, nameFits, functionFits, fitsIn, fits}
+use Rattle.rules.specs.Module.{regions}
 use Rattle.rules.specs.Decode.{moduleOf, startOf}
 use Rattle.rules.specs.Verdict.{functionTest}
 use Rattle.rules.specs.declared.Record.{Record}
@@ -28,8 +27,8 @@ use Rattle.typing.specs.Tests.{left, right}
 use Rattle.typing.specs.Accepted.{module-tables, module-ranges}
 use Rattle.typing.specs.Refused.{function-test}
 use Rattle.typing.specs.Facts.{uses-more, scope-all}
-use Rattle.runs.specs.Table.{InRange, Ranged}
-use Rattle.walk.specs.Tables.{startsOf, tablesOf, tables-walk, tables-starts}
+use Rattle.runs.specs.Table.{Ranged}
+use Rattle.walk.specs.Tables.{tablesOf, tables-walk, tables-starts}
 use Rattle.walk.specs.declared.tables.Tables.{Tables}
 use Rattle.functions.specs.Functions.{Known, functionAt, function-at}
 use Rattle.instructions.specs.Plain.{Tight}
