@@ -81,6 +81,7 @@ fn stands_at(
     )
 }
 
+// Register a becomes the pointer that register b holds, or the run stops with 32.
 pub fn check(
     w: u64,
     x: u64,
@@ -94,12 +95,13 @@ pub fn check(
     requires { ⌜ Ready (now s) k w x × Table (now file) terms structs (now extents) × Narrow (now file) ⌝ }
     ensures { λ r. ⌜ Means r (plainCheck (moduleOf (now (file .entry))) (view (now (s .entry))) k w x) ⌝ }
 {
+    let d = register_a(w);
     let a = register(s, k, register_b(w));
     if a == 0 {
         return Effect::Stop(32);
     }
     if stands_at(w, x, file, terms, structs, extents, s, k, a) {
-        Effect::Assign(register_a(w), a)
+        Effect::Assign(d, a)
     } else {
         Effect::Stop(32)
     }
