@@ -1,0 +1,3 @@
+-- The program's printed lines: the definition, and the laws of writing them.
+pub mod Lines
+pub mod Writing
