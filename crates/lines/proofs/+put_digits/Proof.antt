@@ -1,10 +1,7 @@
 -- The digits of a number: those of its tenth, and one more behind them. The number falls. Assumes nothing.
-use mathlib.Core.Path.{_≡_, sym, ap, _∙_}
 use native.Mathlib.Omega.{arith}
-use lib.ListN.{length, length-set}
 use borrow.Author.Needs.{needs}
 use denote.Ref.{now}
-use Rattle.lines.specs.Lines.{decimal}
 use Rattle.lines.specs.Writing.{puts-length, length-one, length-more, digits-one, digits-more}
 use Prim.Native.Nat.{ℕ, _<_}
 use borrow.Fn.Kinds.{In}

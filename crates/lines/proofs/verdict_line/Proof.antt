@@ -1,5 +1,4 @@
 -- `verdict_line` meets its contract: by the verdict's case.
-use Rattle.lines.specs.Lines.{verdictLine}
 use borrow.Author.Needs.{needs}
 use Rattle.lines.proofs.verdict_line.Statement.{statement}
 use Rattle.lines.proofs.verdict_line.Tie as tie
