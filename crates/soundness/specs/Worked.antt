@@ -36,7 +36,7 @@ use Rattle.rules.specs.Host.{outcomeOf, wentOf, firstRegister, firstState, obje
 use native.Mathlib.Decide.{ℕ-discrete, decLt, decLe}
 
 -- the file's 512 bytes, and the file by its records
-same-file : CasesFile.worked ≡ workedFile
+pub same-file : CasesFile.worked ≡ workedFile
 unfolding little CasesFile.worked CasesFile.workedRecords CasesFile.file CasesFile.fileOf CasesFile.recordsBytes
 same-file = refl
 

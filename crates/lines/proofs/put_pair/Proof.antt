@@ -1,0 +1,24 @@
+-- `put_pair` meets its contract: one number behind the other.
+use native.Mathlib.Omega.{arith}
+use Rattle.lines.specs.Writing.{puts-then}
+use borrow.Author.Needs.{needs}
+use Rattle.lines.proofs.put_pair.Statement.{statement}
+use Rattle.lines.proofs.put_pair.Tie as tie
+use Rattle.lines.proofs.put_pair.Reads as reads
+use Rattle.lines.proofs.put_pair.Lts as lts
+use Rattle.lines.proofs.put_number.Reads as put-number-reads
+
+put-number-requires : tie.Need-put-number-requires
+put-number-requires c κs = search needs
+
+put-number-requires-2 : tie.Need-put-number-requires-2
+put-number-requires-2 c κs = search needs
+
+same-length : tie.Need-same-length
+same-length c = search needs
+
+returns : tie.Need-returns
+returns c = (puts-then (c .before .before .before .before .before .before .put-number .ensures .0) (c .before .before .put-number2 .ensures .0), omega arith)
+
+pub put-pair-spec : {M : Type 1} → statement M
+put-pair-spec = tie.close (tie.spec put-number-requires put-number-requires-2 same-length returns)
