@@ -8,10 +8,10 @@ use Rattle.values.proofs.pages.places_ok.Statement.{statement}
 use Rattle.values.proofs.pages.places_ok.Tie as tie
 
 abbrev Inv-loop : tie.InvT-loop
-Inv-loop f starts functions terms structs tab s n p size to t d j₀ j = (j ≤ 256) × ((z : ℕ) → z < j → PlaceOk f s n p size to t d z)
+Inv-loop f terms structs tab s n p size to t d g j₀ j = (j ≤ 256) × ((z : ℕ) → z < j → PlaceOk f s n p size to t d z)
 
 abbrev μ-loop : tie.MeasureT-loop
-μ-loop f starts functions terms structs tab s n p size to t d j₀ j = 256 - j
+μ-loop f terms structs tab s n p size to t d g j₀ j = 256 - j
 
 loop-holds : tie.Need-loop-holds Inv-loop μ-loop
 loop-holds c = (omega arith, scan-none _)
