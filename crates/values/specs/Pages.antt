@@ -3,12 +3,13 @@
 use mathlib.Core.Path.{_≡_, refl, sym, ap, subst, _∙_}
 use mathlib.Core.Bool.{Bool, true}
 use mathlib.Core.List.{List}
-use mathlib.Core.Logic.{_≢_}
-use Prim.Native.Nat.{ℕ, zero, suc, _+_, _-_, _*_, _<_, _≤_}
-use native.Mathlib.Nat.{mul-suc}
+use mathlib.Core.Logic.{_≢_, ⊎-elim}
+use Prim.Native.Nat.{ℕ, zero, suc, _+_, _-_, _*_, _/_, _<_, _≤_}
+use native.Mathlib.Nat.{mul-suc, mul-comm, div-lt-iff-lt-mul}
 use native.Mathlib.Numerals.{add-one}
 use native.Mathlib.Omega.{arith}
 use Rattle.words.specs.Bytes.{Bytes, AllBytes}
+use Rattle.words.specs.Choose.{lt-or-le}
 use Rattle.words.specs.Decide.{none, more}
 use Rattle.rules.specs.Limits.{pages, pageBytes}
 use Rattle.rules.specs.Types.{variable, live, Variable, Region, Tree, int, ptr, arr, struct, form, sub, Primitive as IsPrimitive}
@@ -97,6 +98,23 @@ place-none n p e = place-out n n (omega arith) ∙ sym e
 
 -- ---- place by place
 
+-- a page has r places for objects of size z
+pub record PlacesIn (z r : ℕ) : Type 0 where
+  pub few : r ≤ pageBytes
+  pub past : (j : ℕ) → j < pageBytes → r ≤ j → pageBytes < z * suc j
+
+pub places-all : (z : ℕ) → PlacesIn z pageBytes
+places-all z = record { few = omega arith; past = λ j h l. absurd (omega arith) }
+
+pub places-some : (z : ℕ) → z ≢ 0 → PlacesIn z (pageBytes / z)
+places-some z d =
+    let h : 0 < z = omega (arith, d) in
+    let few : pageBytes / z < suc pageBytes = div-lt-iff-lt-mul h .1 (omega arith) in
+    record {
+      few = omega arith;
+      past = λ j l k. let a : pageBytes < suc j * z = div-lt-iff-lt-mul h .0 (let q : pageBytes / z < suc j = omega arith in q) in let c = mul-comm (suc j) z in omega arith;
+    }
+
 -- a place that there is, and its address
 pub place-few : (z j : ℕ) → z * (j + 1) ≤ pageBytes → z * j ≤ pageBytes
 place-few z j h = let q : z * (j + 1) ≡ z * suc j = ap (λ (i : ℕ). z * i) (add-one j) in let m = mul-suc z j in omega arith
@@ -104,12 +122,17 @@ place-few z j h = let q : z * (j + 1) ≡ z * suc j = ap (λ (i : ℕ). z * i) (
 one-more : (z j : ℕ) → z * (j + 1) ≡ z * suc j
 one-more z j = ap (λ (i : ℕ). z * i) (add-one j)
 
-module _ {f s : Bytes} {n p z : ℕ} {to : Bytes} {t d j : ℕ} where
-  pub place-past : pageBytes < z * (j + 1) → PlaceOk f s n p z to t d j
-  place-past h = record { is = λ l. absurd (omega (arith, one-more z j)) }
+module _ {f s : Bytes} {n p z : ℕ} {to : Bytes} {t d : ℕ} where
+  pub place-past : {j : ℕ} → pageBytes < z * (j + 1) → PlaceOk f s n p z to t d j
+  place-past {j} h = record { is = λ l. absurd (omega (arith, one-more z j)) }
 
-  pub place-by : {b : Bool} {x : ℕ} → z * (j + 1) ≤ pageBytes → x ≡ pageBytes * p + (z * j + d) → Tells b (PrimitiveAt f s n to t x) → Tells b (PlaceOk f s n p z to t d j)
-  place-by h e u = tells-map (λ w. record { is = λ l. rw e at w }) (λ w. rw e (w .is (omega (arith, one-more z j)))) u
+  pub place-by : {j : ℕ} {b : Bool} {x : ℕ} → z * (j + 1) ≤ pageBytes → x ≡ pageBytes * p + (z * j + d) → Tells b (PrimitiveAt f s n to t x) → Tells b (PlaceOk f s n p z to t d j)
+  place-by {j} h e u = tells-map (λ w. record { is = λ l. rw e at w }) (λ w. rw e (w .is (omega (arith, one-more z j)))) u
+
+  -- past the last place
+  pub places-ended : {many i : ℕ} → PlacesIn z many → ((j : ℕ) → j < i → PlaceOk f s n p z to t d j) → many ≤ i → Tells true ((j : ℕ) → j < pageBytes → PlaceOk f s n p z to t d j)
+  places-ended {many} {i} q w e =
+      tells-yes (λ j h. ⊎-elim (w j) (λ l. record { is = λ k. absurd (let a = q .past j h (omega arith) in omega arith) }) (lt-or-le j i))
 
 -- ---- position by position
 

@@ -12,7 +12,7 @@ ghost use Rattle.stack.specs.Facts.{Known};
 ghost use Rattle.objects.specs.Homes.{HomeIs};
 ghost use Rattle.values.specs.Memory.{TargetIs};
 ghost use Rattle.values.specs.Passes.{AllPrimitives};
-ghost use Rattle.values.specs.Pages.{PlaceOk, PositionOk, PagePrimitives, ObjectsAre};
+ghost use Rattle.values.specs.Pages.{PlacesIn, PlaceOk, PositionOk, PagePrimitives, ObjectsAre};
 use crate::map_of;
 use crate::memory::Target;
 use crate::memory::pointer_ok;
@@ -40,6 +40,17 @@ fn term_at(n: usize, p: usize) -> usize
         return n;
     }
     p - 1
+}
+
+// How many places a page has for objects of this size. (Size 0: all of them, that of no object.)
+fn places_in(size: usize) -> usize
+    ensures { λ r. ⌜ PlacesIn size r ⌝ }
+{
+    let all = Machine::PAGE_BYTES as usize;
+    if size == 0 {
+        return all;
+    }
+    all / size
 }
 
 // The pointer at distance d of the object at place j of page p, of term t under `to`, which leads to g; objects have this size. Where
@@ -86,8 +97,9 @@ fn places_ok(
     requires { ⌜ Table (now f) terms structs (now tab) ⌝ ∗ ⌜ Narrow (now f) ⌝ ∗ ⌜ (p < pages) × (size ≤ 257) × (d ≤ 256) × (TargetIs (now f) (now s) n to t g) ⌝ }
     ensures { λ b. ⌜ Tells b ((j : ℕ) → j < pageBytes → PlaceOk (now (f .entry)) (now (s .entry)) n p size to t d j) ⌝ }
 {
+    let many = places_in(size);
     let mut j = 0;
-    while j < 256 {
+    while j < many {
         if !place_ok(f, terms, structs, tab, s, n, p, size, to, t, d, g, j) {
             return false;
         }
