@@ -1,14 +1,15 @@
 -- A primitive in the pages: the number that its bytes hold, as a value of a term under regions given as bytes. Assumes nothing.
 use mathlib.Core.Path.{_≡_, refl, sym, ap, _∙_}
-use mathlib.Core.Bool.{Bool, _||_}
-use mathlib.Core.Logic.{_≢_, _⊎_}
+use mathlib.Core.Bool.{Bool}
+use mathlib.Core.Logic.{_≢_, _⊎_, inl, inr, ⊎-elim}
 use Prim.Native.Nat.{ℕ, zero, suc, _+_, _-_, _*_, _^_, _/_, _<_, _≤_}
 use native.Mathlib.Nat.{pow-suc}
 use native.Mathlib.Omega.{arith}
-use lib.Dec.{eqb}
+use lib.ListN.{length}
 use Rattle.words.specs.Bytes.{Bytes, AllBytes}
+use Rattle.words.specs.ByteLaws.{length-listOf}
 use Rattle.words.specs.Decide.{does}
-use Rattle.rules.specs.Limits.{pageBytes}
+use Rattle.rules.specs.Limits.{pageBytes, mostRegions}
 use Rattle.rules.specs.Types.{variable, live, Variable, Region, Tree, int, ptr, arr, struct, form, inner, regionOf, width, sub}
 use Rattle.rules.specs.Module.{Module}
 use Rattle.rules.specs.Decode.{moduleOf}
@@ -18,11 +19,12 @@ use Rattle.state.specs.Reads.{memory-lt}
 use Rattle.terms.specs.Compare.{byteUnder, under, under-is}
 use Rattle.terms.specs.Readers.{Inner}
 use Rattle.runs.specs.Runs.{StandsIs}
-use Rattle.stack.specs.Tells.{Tells, tells-map, tells-or, tells-eq, does-tells}
+use Rattle.stack.specs.Tells.{Tells, tells-map, tells-yes, does-tells}
 use Rattle.objects.specs.Homes.{regionTree, HomeIs}
 use Rattle.objects.specs.declared.Home.{Home}
 use Rattle.runs.specs.Maps.{Narrow, mapList, under-close}
 use Rattle.values.specs.Value.{typingOf}
+use Rattle.values.specs.declared.memory.Target.{Target}
 
 -- ---- numbers in the pages
 
@@ -70,30 +72,43 @@ module _ (m : Module) (W : HeapTyping) (σ : Variable → Region live) (mem : �
   pointer (arr n U) e t = absurd (let d : _≡_ {A = ℕ} 3 2 = e in omega arith)
   pointer (struct N rs) e t = absurd (let d : _≡_ {A = ℕ} 4 2 = e in omega arith)
 
-  other : (T : Tree variable) → form T ≢ 1 → form T ≢ 2 → ¬ Value m W (sub σ T) (memoryNumber mem x (width (sub σ T)))
-  unfolding sub
-  other (int w) a b h = a refl
-  other (ptr U r) a b h = b refl
-  other (arr n U) a b h = h
-  other (struct N rs) a b h = h
+module _ {f s : Bytes} {n : ℕ} {to : Bytes} {t x : ℕ} where
+  pub integer-at : AllBytes s → form (moduleOf f .term t) ≡ 1 → PrimitiveAt f s n to t x
+  integer-at all e = record { is = integer (moduleOf f) (typingOf f s n) (under to) (view s .memory) x (moduleOf f .term t) e (memory-fits s all x) }
 
-module _ {f s : Bytes} {n : ℕ} {to : Bytes} {t x : ℕ} {kind : ℕ} (ek : kind ≡ form (moduleOf f .term t)) where
-  pub integer-at : AllBytes s → kind ≡ 1 → PrimitiveAt f s n to t x
-  integer-at all e = record { is = integer (moduleOf f) (typingOf f s n) (under to) (view s .memory) x (moduleOf f .term t) (sym ek ∙ e) (memory-fits s all x) }
+-- ---- where pointers of term t under `to` lead: found once for all places of a page
 
-  pub pointer-at : {b : Bool} {v u r target : ℕ} → kind ≡ 2 → v ≡ memoryNumber (view s .memory) x 4 → u ≡ regionOf (moduleOf f .term t) .number → r ≡ byteUnder to u
-      → Inner f (moduleOf f .term t) target → Tells b (Stands (moduleOf f) (typingOf f s n) (sub (under to) (moduleOf f .term target)) r v)
-      → Tells (eqb v 0 || b) (PrimitiveAt f s n to t x)
-  pointer-at {b} {v} {u} {r} {target} e ev eu er i w =
-      let g = sym ek ∙ e in
-      let q : r ≡ under {k = live} to (regionOf (moduleOf f .term t)) .number =
-      er ∙ ap (byteUnder to) eu ∙ sym (ap (λ (z : Region live). z .number) (under-is to (regionOf (moduleOf f .term t)))) in
-      rw ev
-      (tells-map (λ z. record { is = z }) (λ z. z .is)
-      (pointer (moduleOf f) (typingOf f s n) (under to) (view s .memory) x (moduleOf f .term t) g (tells-or (tells-eq (memoryNumber (view s .memory) x 4) 0) (rw (i .pointer g, q, ev) at w))))
+pub record TargetIs (f s : Bytes) (n : ℕ) (to : Bytes) (t : ℕ) (g : Target) : Type 0 where
+  pub pointer : form (moduleOf f .term t) ≡ 2
+  pub region : g .region ≡ byteUnder to (regionOf (moduleOf f .term t) .number)
+  pub run : moduleOf f .term (g .run) ≡ inner (moduleOf f .term t)
+  pub home : HomeIs f s n (g .region) (record { frame = g .frame; term = g .term })
+  pub map : g .frame ≢ 0 → g .map ≡ mapList s (g .frame - 1)
 
-  pub other-at : kind ≢ 1 → kind ≢ 2 → ¬ PrimitiveAt f s n to t x
-  other-at a b z = other (moduleOf f) (typingOf f s n) (under to) (view s .memory) x (moduleOf f .term t) (λ e. a (ek ∙ e)) (λ e. b (ek ∙ e)) (z .is)
+pub target-is : {f s : Bytes} {n : ℕ} {to : Bytes} {t u r w run : ℕ} {h : Home} {map : Bytes} → form (moduleOf f .term t) ≡ 2 → u ≡ regionOf (moduleOf f .term t) .number → r ≡ byteUnder to u
+    → w ≡ r → HomeIs f s n w h → (h .frame ≢ 0 → map ≡ mapList s (h .frame - 1)) → Inner f (moduleOf f .term t) run
+    → TargetIs f s n to t (record { region = r; frame = h .frame; term = h .term; map = map; run = run })
+target-is {f} {s} {n} {to} {h = h} e eu er ew home em i =
+    let z = rw ew at home in
+    record { pointer = e; region = er ∙ ap (byteUnder to) eu; run = i .pointer e; home = record { none = z .none; some = z .some }; map = em }
+
+module _ {f s : Bytes} {n : ℕ} {to : Bytes} {t x : ℕ} {g : Target} (is : TargetIs f s n to t g) {v : ℕ} (ev : v ≡ memoryNumber (view s .memory) x 4) where
+  pub pointer-zero : v ≡ 0 → PrimitiveAt f s n to t x
+  pointer-zero z =
+      record { is = pointer (moduleOf f) (typingOf f s n) (under to) (view s .memory) x (moduleOf f .term t) (is .pointer) (tells-yes (inl (sym ev ∙ z))) .holds refl }
+
+  pub pointer-at : {b : Bool} → v ≢ 0 → Tells b (Stands (moduleOf f) (typingOf f s n) (sub (under to) (moduleOf f .term (g .run))) (g .region) v) → Tells b (PrimitiveAt f s n to t x)
+  pointer-at d w =
+      let q : g .region ≡ under {k = live} to (regionOf (moduleOf f .term t)) .number =
+      is .region ∙ sym (ap (λ (z : Region live). z .number) (under-is to (regionOf (moduleOf f .term t)))) in
+      tells-map (λ z. record { is = z }) (λ z. z .is)
+      (pointer (moduleOf f) (typingOf f s n) (under to) (view s .memory) x (moduleOf f .term t) (is .pointer)
+      (tells-map (λ z. inr z) (⊎-elim (λ z. absurd (d (ev ∙ z))) (λ z. z)) (rw (is .run, q, ev) at w)))
+
+-- a map is short
+pub map-short : (s : Bytes) (k : ℕ) {map : Bytes} → map ≡ mapList s k → length map ≤ 8
+unfolding mapList
+map-short s k e = let l = ap (λ (x : Bytes). length x) e ∙ length-listOf (frameMap s k) mostRegions in omega arith
 
 -- where a run stands, its regions given as bytes
 pub stands-under : {f s : Bytes} {n r : ℕ} {h : Home} → HomeIs f s n r h → (t : ℕ) (q : Bytes) {a o : ℕ} {p : Bytes} {b : Bool} → Narrow f → h .frame ≢ 0

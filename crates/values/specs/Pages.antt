@@ -3,23 +3,23 @@
 use mathlib.Core.Path.{_≡_, refl, sym, ap, subst, _∙_}
 use mathlib.Core.Bool.{Bool, true}
 use mathlib.Core.List.{List}
-use mathlib.Core.Logic.{_≢_}
-use Prim.Native.Nat.{ℕ, zero, suc, _+_, _-_, _*_, _<_, _≤_}
-use native.Mathlib.Nat.{mul-suc}
+use mathlib.Core.Logic.{_≢_, ⊎-elim}
+use Prim.Native.Nat.{ℕ, zero, suc, _+_, _-_, _*_, _/_, _<_, _≤_}
+use native.Mathlib.Nat.{mul-suc, mul-comm, div-lt-iff-lt-mul}
 use native.Mathlib.Numerals.{add-one}
 use native.Mathlib.Omega.{arith}
-use lib.ListN.{length}
 use Rattle.words.specs.Bytes.{Bytes, AllBytes}
-use Rattle.words.specs.ByteLaws.{length-listOf}
+use Rattle.words.specs.Choose.{lt-or-le}
 use Rattle.words.specs.Decide.{none, more}
-use Rattle.rules.specs.Limits.{pages, pageBytes, mostRegions}
-use Rattle.rules.specs.Types.{variable, live, Tree, int, form, sub}
-use Rattle.rules.specs.Flat.{Placed, at, Layout, count, flat, flatWith, size, subLayout}
+use Rattle.rules.specs.Limits.{pages, pageBytes}
+use Rattle.rules.specs.Types.{variable, live, Variable, Region, Tree, int, ptr, arr, struct, form, sub, Primitive as IsPrimitive}
+use Rattle.rules.specs.Flat.{Placed, at, off, type, Has, Layout, count, flat, flatWith, size, subLayout}
 use Rattle.rules.specs.Decode.{moduleOf}
-use Rattle.rules.specs.State.{view, pageOwner, memoryNumber, frameMap}
+use Rattle.rules.specs.State.{view, pageOwner, memoryNumber}
 use Rattle.rules.specs.StateTest.{PrimitiveOk, PageOk}
 use Rattle.layout.specs.Lists.{each-at}
-use Rattle.layout.specs.Prims.{nth, count-sub}
+use Rattle.layout.specs.Prims.{nth, count-sub, at-has}
+use Rattle.layout.specs.Flat.{flat-has-prim}
 use Rattle.terms.specs.Heads.{placeOf, treeAt}
 use Rattle.terms.specs.HeadLaws.{place-in, place-out, place-le}
 use Rattle.terms.specs.ExtentLaws.{module-term}
@@ -34,7 +34,7 @@ use Rattle.runs.specs.Maps.{each-of, Narrow, mapList, under-close}
 use Rattle.stack.specs.Tells.{Tells, tells-map, tells-yes}
 use Rattle.objects.specs.Homes.{regionTree, HomeIs, size-some}
 use Rattle.objects.specs.declared.Home.{Home}
-use Rattle.values.specs.Memory.{PrimitiveAt, integer-at}
+use Rattle.values.specs.Memory.{PrimitiveAt, integer-at, map-short}
 use Rattle.values.specs.Passes.{AllPrimitives}
 use Rattle.values.specs.declared.pages.Objects.{Objects}
 
@@ -67,10 +67,6 @@ pub record ObjectsAre (f s : Bytes) (n p terms structs : ℕ) (o : Objects) : Ty
   pub count : o .count ≡ count (termLayout f structs (o .place))
   pub layout : flat (moduleOf f) (pageTree f s n p) ≡ subLayout (under {k = live} (o .to)) (termLayout f structs (o .place))
 
-keeps-map : (s : Bytes) (k : ℕ) (map to : Bytes) → map ≡ mapList s k → Agree to map → Keeps to
-unfolding mapList
-keeps-map s k map to e agree = keeps-held to map (let l = ap (λ (x : Bytes). length x) e ∙ length-listOf (frameMap s k) mostRegions in omega arith) agree
-
 pub objects-are : {f s : Bytes} {n p r terms structs a : ℕ} {tab : List ℕ} {h : Home} {map to : Bytes} {e : Extent} → Table f terms structs tab → Narrow f → HomeIs f s n r h
     → r ≡ pageOwner s p - 1 → h .frame ≢ 0 → a ≡ placeOf terms (h .term) → map ≡ mapList s (h .frame - 1) → Agree to map
     → e ≡ exactOf (flat (moduleOf f) (moduleOf f .term (h .term))) → e .size ≤ 257
@@ -79,7 +75,7 @@ objects-are {f} {s} {n} {p} {r} {terms} {structs} {a} {tab} {h} {map} {to} {e} t
     let k : ℕ = h .frame - 1 in
     let hk : h .frame ≡ suc k = omega (arith, d) in
     let T : Tree variable = moduleOf f .term (h .term) in
-    let keeps : Keeps to = keeps-map s k map to em agree in
+    let keeps : Keeps to = keeps-held to map (map-short s k em) agree in
     let z : e .size ≡ size (moduleOf f) T = ap (λ (x : Extent). x .size) ee in
     let tree : pageTree f s n p ≡ sub (under {k = live} map) T =
     ap (regionTree f s n) (sym er) ∙ home .some k hk .1 ∙ sym (under-close s k T (narrow (h .term))) ∙ ap (λ (l : Bytes). sub (under {k = live} l) T) (sym em) in
@@ -102,6 +98,23 @@ place-none n p e = place-out n n (omega arith) ∙ sym e
 
 -- ---- place by place
 
+-- a page has r places for objects of size z
+pub record PlacesIn (z r : ℕ) : Type 0 where
+  pub few : r ≤ pageBytes
+  pub past : (j : ℕ) → j < pageBytes → r ≤ j → pageBytes < z * suc j
+
+pub places-all : (z : ℕ) → PlacesIn z pageBytes
+places-all z = record { few = omega arith; past = λ j h l. absurd (omega arith) }
+
+pub places-some : (z : ℕ) → z ≢ 0 → PlacesIn z (pageBytes / z)
+places-some z d =
+    let h : 0 < z = omega (arith, d) in
+    let few : pageBytes / z < suc pageBytes = div-lt-iff-lt-mul h .1 (omega arith) in
+    record {
+      few = omega arith;
+      past = λ j l k. let a : pageBytes < suc j * z = div-lt-iff-lt-mul h .0 (let q : pageBytes / z < suc j = omega arith in q) in let c = mul-comm (suc j) z in omega arith;
+    }
+
 -- a place that there is, and its address
 pub place-few : (z j : ℕ) → z * (j + 1) ≤ pageBytes → z * j ≤ pageBytes
 place-few z j h = let q : z * (j + 1) ≡ z * suc j = ap (λ (i : ℕ). z * i) (add-one j) in let m = mul-suc z j in omega arith
@@ -109,14 +122,26 @@ place-few z j h = let q : z * (j + 1) ≡ z * suc j = ap (λ (i : ℕ). z * i) (
 one-more : (z j : ℕ) → z * (j + 1) ≡ z * suc j
 one-more z j = ap (λ (i : ℕ). z * i) (add-one j)
 
-module _ {f s : Bytes} {n p z : ℕ} {to : Bytes} {t d j : ℕ} where
-  pub place-past : pageBytes < z * (j + 1) → PlaceOk f s n p z to t d j
-  place-past h = record { is = λ l. absurd (omega (arith, one-more z j)) }
+module _ {f s : Bytes} {n p z : ℕ} {to : Bytes} {t d : ℕ} where
+  pub place-past : {j : ℕ} → pageBytes < z * (j + 1) → PlaceOk f s n p z to t d j
+  place-past {j} h = record { is = λ l. absurd (omega (arith, one-more z j)) }
 
-  pub place-by : {b : Bool} {x : ℕ} → z * (j + 1) ≤ pageBytes → x ≡ pageBytes * p + (z * j + d) → Tells b (PrimitiveAt f s n to t x) → Tells b (PlaceOk f s n p z to t d j)
-  place-by h e u = tells-map (λ w. record { is = λ l. rw e at w }) (λ w. rw e (w .is (omega (arith, one-more z j)))) u
+  pub place-by : {j : ℕ} {b : Bool} {x : ℕ} → z * (j + 1) ≤ pageBytes → x ≡ pageBytes * p + (z * j + d) → Tells b (PrimitiveAt f s n to t x) → Tells b (PlaceOk f s n p z to t d j)
+  place-by {j} h e u = tells-map (λ w. record { is = λ l. rw e at w }) (λ w. rw e (w .is (omega (arith, one-more z j)))) u
+
+  -- past the last place
+  pub places-ended : {many i : ℕ} → PlacesIn z many → ((j : ℕ) → j < i → PlaceOk f s n p z to t d j) → many ≤ i → Tells true ((j : ℕ) → j < pageBytes → PlaceOk f s n p z to t d j)
+  places-ended {many} {i} q w e =
+      tells-yes (λ j h. ⊎-elim (w j) (λ l. record { is = λ k. absurd (let a = q .past j h (omega arith) in omega arith) }) (lt-or-le j i))
 
 -- ---- position by position
+
+form-two : (σ : Variable → Region live) (T : Tree variable) → form T ≢ 1 → IsPrimitive (sub σ T) → form T ≡ 2
+unfolding sub
+form-two σ (int w) d h = absurd (d refl)
+form-two σ (ptr U r) d h = refl
+form-two σ (arr n U) d h = elim h [ ]
+form-two σ (struct N rs) d h = elim h [ ]
 
 module _ {f s : Bytes} {n p terms structs : ℕ} {o : Objects} (are : ObjectsAre f s n p terms structs o) {tab : List ℕ} (table : Table f terms structs tab) (i : ℕ) (r : Primitive)
     (found : Found f r (o .to) 0 (nth (termLayout f structs (o .place)) i)) (t : ℕ) (et : placeOf terms t ≡ r .place) where
@@ -136,7 +161,16 @@ module _ {f s : Bytes} {n p terms structs : ℕ} {o : Objects} (are : ObjectsAre
 
   -- the bytes of an integer hold one of its values
   pub position-integer : {kind : ℕ} → kind ≡ form (moduleOf f .term t) → AllBytes s → kind ≡ 1 → Tells true (PositionOk f s n p i)
-  position-integer ek all e = position-by (tells-yes (λ j h. record { is = λ l. integer-at ek all e }))
+  position-integer ek all e = position-by (tells-yes (λ j h. record { is = λ l. integer-at all (sym ek ∙ e) }))
+
+  -- what is no integer is a pointer
+  pub position-pointer : {kind : ℕ} → kind ≡ form (moduleOf f .term t) → kind ≢ 1 → i < o .count → form (moduleOf f .term t) ≡ 2
+  position-pointer ek d l =
+      let c : o .count ≡ count (flat (moduleOf f) (pageTree f s n p)) =
+      are .count ∙ sym (count-sub (under {k = live} (o .to)) (termLayout f structs (o .place))) ∙ ap (λ (L : Layout live). count L) (sym (are .layout)) in
+      form-two (under {k = live} (r .to)) (moduleOf f .term t) (λ e. d (ek ∙ e))
+      (flat-has-prim (moduleOf f) (pageTree f s n p)
+      (subst (λ (q : Placed live). Has (flat (moduleOf f) (pageTree f s n p) .prims) (off q) (type q)) (sym primitive) (at-has (flat (moduleOf f) (pageTree f s n p) .prims) i (at 0 (int 0)) (omega arith))))
 
 -- ---- page by page
 

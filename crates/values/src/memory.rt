@@ -1,23 +1,21 @@
-// A primitive in the pages as a value of a term, whose regions are given as bytes. (An integer's bytes always hold one of its values.)
+// A pointer in the pages as a value of a term, whose regions are given as bytes. (An integer's bytes always hold one of its values.)
 ghost use mathlib.Core.Path.{_≡_};
-ghost use Prim.Native.Nat.{_<_, _^_};
-ghost use Rattle.rules.specs.Types.{live, sub};
+ghost use mathlib.Core.Logic.{_≢_};
+ghost use Prim.Native.Nat.{_-_, _<_, _^_};
+ghost use Rattle.rules.specs.Types.{form};
 ghost use Rattle.rules.specs.Decode.{moduleOf};
 ghost use Rattle.rules.specs.State.{view, memoryNumber};
-ghost use Rattle.rules.specs.Heap.{Stands};
-ghost use Rattle.terms.specs.Compare.{under};
+ghost use Rattle.terms.specs.Extents.{Terms};
 ghost use Rattle.runs.specs.Table.{Table};
 ghost use Rattle.stack.specs.Tells.{Tells};
 ghost use Rattle.stack.specs.Facts.{Known};
-ghost use Rattle.runs.specs.Maps.{Narrow};
-ghost use Rattle.values.specs.Value.{typingOf};
-ghost use Rattle.values.specs.Memory.{PrimitiveAt};
+ghost use Rattle.runs.specs.Maps.{Narrow, mapList};
+ghost use Rattle.values.specs.Memory.{PrimitiveAt, TargetIs};
 use crate::map_of;
 use objects::home_of;
 use state::Machine;
 use state::total::memory_byte;
 use terms::Live;
-use terms::form;
 use terms::inner;
 use terms::live_of;
 use terms::target_region;
@@ -35,88 +33,92 @@ fn word(s: &[u8], x: u32) -> u32
     a + b * 256 + c * 65536 + d * 16777216
 }
 
-// Of n frames: the run of term t under `to` stands at address x, in live region r.
-fn stands_under(
+// Where the pointers of a term lead: into live region `region`, whose objects are of `term` under `map` (frame 0: it is not live), to
+// a run of term `run`.
+pub struct Target {
+    pub region: u8,
+    pub frame: u32,
+    pub term: usize,
+    pub map: [u8; 7],
+    pub run: usize,
+}
+
+// The map of the frame before this one, if there is one.
+fn map_before(s: &[u8], frame: u32) -> [u8; 7]
+    ensures { λ r. ⌜ (frame ≢ 0 → r ≡ mapList (now (s .entry)) (frame - 1)) ⌝ }
+{
+    if frame == 0 {
+        return [0, 0, 0, 0, 0, 0, 0];
+    }
+    map_of(s, frame - 1)
+}
+
+// Of n frames: where pointers of term t under `to` lead.
+pub fn target_of(
     f: &[u8],
     starts: &[usize; CALLEES],
     functions: usize,
+    terms: usize,
+    s: &[u8],
+    n: u32,
+    to: [u8; 8],
+    t: usize,
+) -> Target
+    requires { ⌜ Known (now f) (now starts) functions ⌝ ∗ ⌜ Terms (now f) terms ⌝ ∗ ⌜ form (moduleOf (now f) .term t) ≡ 2 ⌝ }
+    ensures { λ g. ⌜ TargetIs (now (f .entry)) (now (s .entry)) n to t g ⌝ }
+{
+    let variable = target_region(f, terms, t);
+    let live = live_of(&to, variable);
+    let region = live.0;
+    let h = home_of(f, starts, functions, s, n, words::wide(region));
+    let frame = h.frame;
+    let map = map_before(s, frame);
+    let run = inner(f, terms, t);
+    Target {
+        region,
+        frame,
+        term: h.term,
+        map,
+        run,
+    }
+}
+
+// The pointer at address x, of term t under `to`: zero, or where its run stands.
+pub fn pointer_ok(
+    f: &[u8],
     terms: usize,
     structs: usize,
     tab: &[u64],
     s: &[u8],
     n: u32,
-    r: u8,
-    t: usize,
     to: [u8; 8],
+    t: usize,
+    g: Target,
     x: u32,
 ) -> bool
-    requires { ⌜ Known (now f) (now starts) functions ⌝ ∗ ⌜ Table (now f) terms structs (now tab) ⌝ ∗ ⌜ Narrow (now f) ⌝ }
-    ensures { λ b. ⌜ Tells b (Stands (moduleOf (now (f .entry))) (typingOf (now (f .entry)) (now (s .entry)) n) (sub (under {k = live} to) (moduleOf (now (f .entry)) .term t)) r x) ⌝ }
+    requires { ⌜ Table (now f) terms structs (now tab) ⌝ ∗ ⌜ Narrow (now f) ⌝ ∗ ⌜ (TargetIs (now f) (now s) n to t g) × (x < 2 ^ 30) ⌝ }
+    ensures { λ b. ⌜ Tells b (PrimitiveAt (now (f .entry)) (now (s .entry)) n to t x) ⌝ }
 {
-    let region = words::wide(r);
-    let h = home_of(f, starts, functions, s, n, region);
-    let frame = h.frame;
-    if frame == 0 {
+    let v = word(s, x);
+    if v == 0 {
+        return true;
+    }
+    if g.frame == 0 {
         return false;
     }
-    let p = map_of(s, frame - 1);
-    let owner = state::total::owner(s, x / Machine::PAGE_BYTES);
+    let owner = state::total::owner(s, v / Machine::PAGE_BYTES);
+    let map = g.map;
     runs::stands(
         f,
         terms,
         structs,
-        Live(r),
+        Live(g.region),
         owner,
-        h.term,
-        &p,
-        x,
-        t,
+        g.term,
+        &map,
+        v,
+        g.run,
         &to,
         tab,
     )
-}
-
-// The primitive at address x, of term t under `to`.
-pub fn primitive_ok(
-    f: &[u8],
-    starts: &[usize; CALLEES],
-    functions: usize,
-    terms: usize,
-    structs: usize,
-    tab: &[u64],
-    s: &[u8],
-    n: u32,
-    to: [u8; 8],
-    t: usize,
-    x: u32,
-) -> bool
-    requires { ⌜ Known (now f) (now starts) functions ⌝ ∗ ⌜ Table (now f) terms structs (now tab) ⌝ ∗ ⌜ Narrow (now f) ⌝ ∗ ⌜ x < 2 ^ 30 ⌝ }
-    ensures { λ b. ⌜ Tells b (PrimitiveAt (now (f .entry)) (now (s .entry)) n to t x) ⌝ }
-{
-    let kind = form(f, terms, t);
-    if kind == 1 {
-        return true;
-    }
-    if kind == 2 {
-        let v = word(s, x);
-        let variable = target_region(f, terms, t);
-        let r = live_of(&to, variable);
-        let target = inner(f, terms, t);
-        let there = stands_under(
-            f,
-            starts,
-            functions,
-            terms,
-            structs,
-            tab,
-            s,
-            n,
-            r.0,
-            target,
-            to,
-            v,
-        );
-        return (v == 0) | there;
-    }
-    false
 }

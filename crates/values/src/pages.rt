@@ -1,5 +1,5 @@
 // "each primitive in each owned page is a value of its type": page by page, position by position, place by place. What the objects
-// of a page are is found once a page, the primitive at a position once for all places.
+// of a page are is found once a page, the primitive at a position and where it leads once for all places.
 ghost use mathlib.Core.Path.{_≡_};
 ghost use Prim.Native.Nat.{ℕ, _-_, _<_, _≤_};
 ghost use Rattle.rules.specs.Limits.{pages, pageBytes};
@@ -10,10 +10,13 @@ ghost use Rattle.runs.specs.Maps.{Narrow};
 ghost use Rattle.stack.specs.Tells.{Tells};
 ghost use Rattle.stack.specs.Facts.{Known};
 ghost use Rattle.objects.specs.Homes.{HomeIs};
+ghost use Rattle.values.specs.Memory.{TargetIs};
 ghost use Rattle.values.specs.Passes.{AllPrimitives};
-ghost use Rattle.values.specs.Pages.{PlaceOk, PositionOk, PagePrimitives, ObjectsAre};
+ghost use Rattle.values.specs.Pages.{PlacesIn, PlaceOk, PositionOk, PagePrimitives, ObjectsAre};
 use crate::map_of;
-use crate::memory::primitive_ok;
+use crate::memory::Target;
+use crate::memory::pointer_ok;
+use crate::memory::target_of;
 use objects::Home;
 use objects::home_of;
 use state::Machine;
@@ -39,12 +42,21 @@ fn term_at(n: usize, p: usize) -> usize
     p - 1
 }
 
-// The primitive at distance d of the object at place j of page p, of term t under `to`; objects have this size. Where there is no
-// such place nothing is asked.
+// How many places a page has for objects of this size. (Size 0: all of them, that of no object.)
+fn places_in(size: usize) -> usize
+    ensures { λ r. ⌜ PlacesIn size r ⌝ }
+{
+    let all = Machine::PAGE_BYTES as usize;
+    if size == 0 {
+        return all;
+    }
+    all / size
+}
+
+// The pointer at distance d of the object at place j of page p, of term t under `to`, which leads to g; objects have this size. Where
+// there is no such place nothing is asked.
 fn place_ok(
     f: &[u8],
-    starts: &[usize; CALLEES],
-    functions: usize,
     terms: usize,
     structs: usize,
     tab: &[u64],
@@ -55,22 +67,21 @@ fn place_ok(
     to: [u8; 8],
     t: usize,
     d: usize,
+    g: Target,
     j: usize,
 ) -> bool
-    requires { ⌜ Known (now f) (now starts) functions ⌝ ∗ ⌜ Table (now f) terms structs (now tab) ⌝ ∗ ⌜ Narrow (now f) ⌝ ∗ ⌜ (p < pages) × (size ≤ 257) × (d ≤ 256) × (j < 256) ⌝ }
+    requires { ⌜ Table (now f) terms structs (now tab) ⌝ ∗ ⌜ Narrow (now f) ⌝ ∗ ⌜ (p < pages) × (size ≤ 257) × (d ≤ 256) × (j < 256) × (TargetIs (now f) (now s) n to t g) ⌝ }
     ensures { λ b. ⌜ Tells b (PlaceOk (now (f .entry)) (now (s .entry)) n p size to t d j) ⌝ }
 {
     if size * (j + 1) > Machine::PAGE_BYTES as usize {
         return true;
     }
     let x = Machine::PAGE_BYTES * p + (size * j + d) as u32;
-    primitive_ok(f, starts, functions, terms, structs, tab, s, n, to, t, x)
+    pointer_ok(f, terms, structs, tab, s, n, to, t, g, x)
 }
 
 fn places_ok(
     f: &[u8],
-    starts: &[usize; CALLEES],
-    functions: usize,
     terms: usize,
     structs: usize,
     tab: &[u64],
@@ -81,28 +92,15 @@ fn places_ok(
     to: [u8; 8],
     t: usize,
     d: usize,
+    g: Target,
 ) -> bool
-    requires { ⌜ Known (now f) (now starts) functions ⌝ ∗ ⌜ Table (now f) terms structs (now tab) ⌝ ∗ ⌜ Narrow (now f) ⌝ ∗ ⌜ (p < pages) × (size ≤ 257) × (d ≤ 256) ⌝ }
+    requires { ⌜ Table (now f) terms structs (now tab) ⌝ ∗ ⌜ Narrow (now f) ⌝ ∗ ⌜ (p < pages) × (size ≤ 257) × (d ≤ 256) × (TargetIs (now f) (now s) n to t g) ⌝ }
     ensures { λ b. ⌜ Tells b ((j : ℕ) → j < pageBytes → PlaceOk (now (f .entry)) (now (s .entry)) n p size to t d j) ⌝ }
 {
+    let many = places_in(size);
     let mut j = 0;
-    while j < 256 {
-        if !place_ok(
-            f,
-            starts,
-            functions,
-            terms,
-            structs,
-            tab,
-            s,
-            n,
-            p,
-            size,
-            to,
-            t,
-            d,
-            j,
-        ) {
+    while j < many {
+        if !place_ok(f, terms, structs, tab, s, n, p, size, to, t, d, g, j) {
             return false;
         }
         j += 1;
@@ -135,21 +133,8 @@ fn position_ok(
     if kind == 1 {
         return true;
     }
-    places_ok(
-        f,
-        starts,
-        functions,
-        terms,
-        structs,
-        tab,
-        s,
-        n,
-        p,
-        o.size,
-        to,
-        t,
-        x.off,
-    )
+    let g = target_of(f, starts, functions, terms, s, n, to, t);
+    places_ok(f, terms, structs, tab, s, n, p, o.size, to, t, x.off, g)
 }
 
 fn positions_ok(

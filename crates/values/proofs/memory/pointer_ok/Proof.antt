@@ -1,0 +1,52 @@
+-- `values::memory::pointer_ok` meets its contract: zero, or where its run stands. Assumes nothing.
+use Rattle.stack.specs.Tells.{tells-yes, tells-no}
+use Rattle.values.specs.Value.{stands-none}
+use Rattle.values.specs.Memory.{pointer-zero, pointer-at, map-short, stands-under}
+use borrow.Author.Needs.{needs}
+use Rattle.values.proofs.memory.pointer_ok.Statement.{statement}
+use Rattle.values.proofs.memory.pointer_ok.Tie as tie
+
+word-requires : tie.Need-word-requires
+word-requires c κs = search needs
+
+returns : tie.Need-returns
+returns c = tells-yes (pointer-zero (c .before .before .before .before .before .pre .1 .1 .0) (c .before .word .ensures) (c .if1 .taken))
+
+returns-2 : tie.Need-returns-2
+returns-2 c =
+    let is = c .before .before .before .before .before .before .before .pre .1 .1 .0 in
+    pointer-at is (c .before .before .before .word .ensures) (c .before .before .if1 .left) (tells-no (stands-none (is .home) (c .if2 .taken)))
+
+owner-requires : tie.Need-owner-requires
+owner-requires c κs = search needs
+
+slice-aggregate-stands : tie.Need-slice-aggregate-stands
+slice-aggregate-stands c = search needs
+
+slice-aggregate-stands-2 : tie.Need-slice-aggregate-stands-2
+slice-aggregate-stands-2 c = search needs
+
+stands-requires : tie.Need-stands-requires
+stands-requires c κs =
+    let q = c .before .before .before .before .before .before .before .before .before .before .before .pre in
+    (q .0, map-short _ _ (q .1 .1 .0 .map (c .before .before .before .before .if2 .left)), search needs)
+
+returns-3 : tie.Need-returns-3
+returns-3 c =
+    let q = c .before .before .before .before .before .before .before .before .before .before .before .before .pre .1 in
+    let is = q .1 .0 in
+    let d = c .before .before .before .before .before .if2 .left in
+    pointer-at is (c .before .before .before .before .before .before .before .before .word .ensures) (c .before .before .before .before .before .before .before .if1 .left) (stands-under (is .home) (c .before .before .before .before .before .before .before .before .before .before .before .before .args .g .run) (c .before .before .before .before .before .before .before .before .before .before .before .before .args .t7) (q .0) d (is .map d) (c .before .before .before .before .owner .ensures) (c .stands .ensures))
+
+pub pointer-ok-spec : {M : Type 1} → statement M
+pointer-ok-spec =
+    tie.close
+    (tie.spec
+    word-requires
+    returns
+    returns-2
+    owner-requires
+    slice-aggregate-stands
+    slice-aggregate-stands-2
+    stands-requires
+    returns-3)

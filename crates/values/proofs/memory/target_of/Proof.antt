@@ -1,0 +1,42 @@
+-- `values::memory::target_of` meets its contract: what its parts find. Assumes nothing.
+use Rattle.values.specs.Memory.{target-is}
+use borrow.Author.Needs.{needs}
+use Rattle.values.proofs.memory.target_of.Statement.{statement}
+use Rattle.values.proofs.memory.target_of.Tie as tie
+
+target-region-requires : tie.Need-target-region-requires
+target-region-requires c κs = search needs
+
+slice-aggregate-live-of : tie.Need-slice-aggregate-live-of
+slice-aggregate-live-of c = search needs
+
+live-of-requires : tie.Need-live-of-requires
+live-of-requires c κs = search needs
+
+wide-requires : tie.Need-wide-requires
+wide-requires c κs = search needs
+
+home-of-requires : tie.Need-home-of-requires
+home-of-requires c κs = search needs
+
+map-before-requires : tie.Need-map-before-requires
+map-before-requires c κs = search needs
+
+inner-requires : tie.Need-inner-requires
+inner-requires c κs = search needs
+
+returns : tie.Need-returns
+returns c = target-is (c .before .before .before .before .before .before .before .before .before .pre .1 .1) (c .before .before .before .before .before .before .target-region .ensures) (c .before .before .before .before .live-of .ensures) (c .before .before .before .wide .ensures .0) (c .before .before .home-of .ensures) (c .before .map-before .ensures) (c .inner .ensures)
+
+pub target-of-spec : {M : Type 1} → statement M
+target-of-spec =
+    tie.close
+    (tie.spec
+    target-region-requires
+    slice-aggregate-live-of
+    live-of-requires
+    wide-requires
+    home-of-requires
+    map-before-requires
+    inner-requires
+    returns)
