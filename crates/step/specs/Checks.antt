@@ -1,5 +1,5 @@
 -- Kind 22: what the code compares is what the rules ask, and the two tests of the code are the rules'. Assumes nothing.
-use mathlib.Core.Path.{_≡_, refl, sym, ap, _∙_}
+use mathlib.Core.Path.{_≡_, sym, ap, _∙_}
 use mathlib.Core.Logic.{_≢_}
 use mathlib.Core.Bool.{Bool, true, false, cond}
 use Prim.Native.Nat.{ℕ, _/_}
@@ -12,7 +12,7 @@ use Rattle.rules.specs.Module.{Module}
 use Rattle.rules.specs.Decode.{moduleOf}
 use Rattle.rules.specs.State.{view, frameRegister, frameMap, pageOwner}
 use Rattle.rules.specs.Heap.{close, HeapTyping, decStands}
-use Rattle.rules.specs.Step.{Effect, assign, stop}
+use Rattle.rules.specs.Step.{assign, stop}
 use Rattle.terms.specs.Compare.{under}
 use Rattle.runs.specs.Runs.{StandsIs}
 use Rattle.runs.specs.Maps.{Narrow, mapList, under-close}

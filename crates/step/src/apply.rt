@@ -1,8 +1,14 @@
 // Doing an effect, in place. The top frame's own instruction bytes stay as they are until a call, a stop or the end of the run.
 ghost use mathlib.Core.Path.{_≡_};
-ghost use Prim.Native.Nat.{_+_, _<_, _≤_};
+ghost use mathlib.Core.List.{List, []};
+ghost use Prim.Native.Nat.{ℕ, suc, _+_, _<_, _≤_};
 ghost use lib.ListN.{length};
-ghost use Rattle.rules.specs.Limits.{mostFrames, mostRegions, stateBytes};
+ghost use Rattle.words.specs.Bytes.{Bytes};
+ghost use Rattle.rules.specs.Limits.{mostFrames, mostRegisters, mostRegions, stateBytes};
+ghost use Rattle.rules.specs.State.{view, putOutputCount};
+ghost use Rattle.rules.specs.Step.{emit as emitted};
+ghost use Rattle.rules.specs.Writes.{applyOutput};
+ghost use Rattle.state.specs.Puts.{after};
 ghost use Rattle.frames.specs.Regions.{Bounded};
 ghost use Rattle.prepared.specs.Program.{regionParams, locals};
 ghost use Rattle.step.specs.Applied.{Fits, Applied};
@@ -31,6 +37,71 @@ use state::fields::put_result;
 use state::fields::put_status;
 use words::low;
 use words::put_byte;
+
+// A byte to the output.
+fn emit(s: &mut [u8], o: &mut [u8], y: u32)
+    requires { ⌜ (length (now s) ≡ stateBytes) × (view (now s) .outputCount < length (now o)) ⌝ }
+    ensures { λ _. ⌜ (now (s .exit) ≡ after (putOutputCount (suc (view (now (s .entry)) .outputCount))) (now (s .entry)))
+        × (now (o .exit) ≡ applyOutput (view (now (s .entry)) .outputCount) (emitted y) (now (o .entry))) ⌝ }
+{
+    let n = output_count(s);
+    put_output_count(s, n + 1);
+    put_byte(o, n as usize, low(y));
+}
+
+// The call that the words w and x say, at instruction p of frame k.
+fn push(
+    w: u64,
+    x: u64,
+    functions: &[u64; 256],
+    given: &[u8; 256],
+    own: &[u8; 256],
+    s: &mut [u8],
+    k: u32,
+    p: u32,
+) -> Next
+    requires { ⌜ (length (now s) ≡ stateBytes) × (k < mostFrames) × (p < 65536) × Bounded (now given) (now own) × Fits (now given) (now functions) (now s) [] k w x Effect.Push ⌝ }
+    ensures { λ r. ⌜ ((u : ℕ) (o : Bytes) → Applied (now (functions .entry)) (now (given .entry)) (now (own .entry)) k u p w x Effect.Push (now (s .entry)) o r (now (s .exit)) o) ⌝ }
+{
+    let g = callee_of(x);
+    let f = functions[g];
+    put_instruction(s, k, p);
+    enter(given, own, s, k, g as u8, params_of(f), x, immediate_of(w));
+    Next::On(k + 1, f, 0)
+}
+
+// Back from frame k, of the function with word u, to frame c, whose register a becomes y.
+fn pop(functions: &[u64; 256], s: &mut [u8], k: u32, u: u64, c: u32, a: u32, y: u32) -> Next
+    requires { ⌜ (length (now s) ≡ stateBytes) × (k < mostFrames) × (regionParams u + locals u ≤ mostRegions) × (c < k) × (a < mostRegisters) ⌝ }
+    ensures { λ r. ⌜ ((given own : Bytes) (p w x : ℕ) (o : Bytes) → Applied (now (functions .entry)) given own k u p w x (Effect.Pop c a y) (now (s .entry)) o r (now (s .exit)) o) ⌝ }
+{
+    let f = functions[function(s, c) as usize];
+    let q = instruction(s, c);
+    leave(s, k, region_params_of(u), locals_of(u));
+    put_register(s, c, a, y);
+    Next::On(c, f, q + 1)
+}
+
+// The module ends with y.
+fn finish(s: &mut [u8], k: u32, u: u64, y: u32) -> Next
+    requires { ⌜ (length (now s) ≡ stateBytes) × (k < mostFrames) × (regionParams u + locals u ≤ mostRegions) ⌝ }
+    ensures { λ r. ⌜ ((functions : List ℕ) (given own : Bytes) (p w x : ℕ) (o : Bytes) → Applied functions given own k u p w x (Effect.Finish y) (now (s .entry)) o r (now (s .exit)) o) ⌝ }
+{
+    leave(s, k, region_params_of(u), locals_of(u));
+    put_status(s, 1);
+    put_result(s, y);
+    Next::Over
+}
+
+// A stop for reason n at instruction p.
+fn stop(s: &mut [u8], k: u32, p: u32, n: u8) -> Next
+    requires { ⌜ (length (now s) ≡ stateBytes) × (k < mostFrames) ⌝ }
+    ensures { λ r. ⌜ ((functions : List ℕ) (given own : Bytes) (u w x : ℕ) (o : Bytes) → Applied functions given own k u p w x (Effect.Stop n) (now (s .entry)) o r (now (s .exit)) o) ⌝ }
+{
+    put_instruction(s, k, p);
+    put_status(s, n);
+    Next::Over
+}
 
 // The effect e of top frame k, of the function with word u, at instruction p with the words w and x: what it writes, and where the run goes on.
 pub fn apply(
@@ -79,35 +150,12 @@ pub fn apply(
         }
         Effect::GoTo(d) => Next::On(k, u, d),
         Effect::Emit(y) => {
-            let n = output_count(s);
-            put_output_count(s, n + 1);
-            put_byte(o, n as usize, low(y));
+            emit(s, o, y);
             Next::On(k, u, p + 1)
         }
-        Effect::Push => {
-            let g = callee_of(x);
-            let f = functions[g];
-            put_instruction(s, k, p);
-            enter(given, own, s, k, g as u8, params_of(f), x, immediate_of(w));
-            Next::On(k + 1, f, 0)
-        }
-        Effect::Pop(c, a, y) => {
-            let f = functions[function(s, c) as usize];
-            let q = instruction(s, c);
-            leave(s, k, region_params_of(u), locals_of(u));
-            put_register(s, c, a, y);
-            Next::On(c, f, q + 1)
-        }
-        Effect::Finish(y) => {
-            leave(s, k, region_params_of(u), locals_of(u));
-            put_status(s, 1);
-            put_result(s, y);
-            Next::Over
-        }
-        Effect::Stop(n) => {
-            put_instruction(s, k, p);
-            put_status(s, n);
-            Next::Over
-        }
+        Effect::Push => push(w, x, functions, given, own, s, k, p),
+        Effect::Pop(c, a, y) => pop(functions, s, k, u, c, a, y),
+        Effect::Finish(y) => finish(s, k, u, y),
+        Effect::Stop(n) => stop(s, k, p, n),
     }
 }

@@ -16,7 +16,7 @@ ghost use Rattle.rules.specs.Step.{allocate as allocated, Effect as Effected};
 ghost use Rattle.arithmetic.specs.Meaning.{computedOf};
 ghost use Rattle.runs.specs.Table.{Table};
 ghost use Rattle.runs.specs.Maps.{Narrow};
-ghost use Rattle.prepared.specs.Program.{Program, program, kind};
+ghost use Rattle.prepared.specs.Program.{program, kind};
 ghost use Rattle.prepared.specs.Plain.{plainArithmetic, plainMemory, plainControl, plainPush, plainReturn, plainOf};
 ghost use Rattle.prepared.specs.Ready.{Ready, Caller};
 ghost use Rattle.step.specs.Meaning.{meant, Means};
