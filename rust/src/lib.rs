@@ -10,10 +10,14 @@ pub mod damage;
 pub mod file;
 pub mod generator;
 pub mod host;
+#[cfg(feature = "librcm")]
+pub mod library;
 pub mod machine;
 pub mod module;
 pub mod prng;
 pub mod state;
 pub mod state_test;
 pub mod tally;
+pub mod text;
+pub mod tool;
 pub mod types;
