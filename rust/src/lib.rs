@@ -14,6 +14,8 @@ pub mod host;
 pub mod library;
 pub mod machine;
 pub mod module;
+#[cfg(feature = "plain")]
+pub mod plain;
 pub mod prng;
 pub mod state;
 pub mod state_test;
