@@ -4,6 +4,7 @@
 
 use reference::compare::Interface;
 use reference::tool::{run, Session};
+use std::io::IsTerminal;
 use std::process::ExitCode;
 
 #[cfg(feature = "librcm")]
@@ -28,6 +29,7 @@ fn main() -> ExitCode {
         machine: machine.as_mut().map(|machine| machine as &mut dyn Interface),
         out: &mut std::io::stdout().lock(),
         error: &mut std::io::stderr(),
+        terminal: std::io::stderr().is_terminal(),
     };
     ExitCode::from(run(&words, &mut session))
 }

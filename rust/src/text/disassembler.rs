@@ -259,7 +259,7 @@ impl<'m> Listing<'m> {
 }
 
 /// The records of the whole blocks of a file, whatever their headers say.
-fn all_records(file: &[u8]) -> Vec<Record> {
+pub fn file_records(file: &[u8]) -> Vec<Record> {
     let blocks = file.chunks_exact(BLOCK_BYTES);
     let bytes = blocks.flat_map(|block| block[RECORDS_AT..CHECK_AT].chunks_exact(RECORD_BYTES));
     bytes.map(|bytes| Record(bytes.try_into().expect("eight bytes"))).collect()
@@ -283,7 +283,7 @@ fn without_filler(mut records: Vec<Record>) -> Vec<Record> {
 /// What the file has beyond the records: further blocks, wrong headers, checks and length.
 fn file_lines(file: &[u8]) -> String {
     let whole = in_blocks(file);
-    let all = all_records(&whole);
+    let all = file_records(&whole);
     let blocks = whole.len() / BLOCK_BYTES;
     let needed = without_filler(all.clone()).len().div_ceil(RECORDS_PER_BLOCK).max(1);
     let mut text = String::new();
@@ -317,7 +317,7 @@ fn file_lines(file: &[u8]) -> String {
 
 fn raw_text(file: &[u8]) -> String {
     let mut text = String::new();
-    for record in without_filler(all_records(&in_blocks(file))) {
+    for record in without_filler(file_records(&in_blocks(file))) {
         let list = matches!(record.kind(), KIND_FIELDS..=KIND_REGISTER_TYPES | KIND_ARGUMENTS);
         let (kind, a, b, c, d) = (record.kind(), record.a(), record.b(), record.c(), record.d());
         text += &match list {

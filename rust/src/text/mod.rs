@@ -9,5 +9,5 @@ mod parser;
 mod syntax;
 
 pub use assembler::assemble;
-pub use disassembler::{disassemble, Listing};
+pub use disassembler::{disassemble, file_records, Listing};
 pub use lexer::{Error, Place};

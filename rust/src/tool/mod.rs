@@ -2,6 +2,11 @@
 //! state is decided by the five calls of the C interface, which the tool is given.
 
 mod assembly;
+mod explain;
+mod going;
+mod pages;
+mod picture;
+mod verdict;
 
 use crate::compare::Interface;
 use std::io::Write;
@@ -18,6 +23,12 @@ pub const RUNNING: u8 = 4;
 const USAGE: &str = "\
 usage: rcm asm FILE -o MODULE        the module file of a text
        rcm dis MODULE                the text of a module file
+       rcm check MODULE              the verdict, a refusal in plain words
+       rcm run MODULE FORM [--budget N] [--arguments N,N,..] [--state FILE] [--output FILE] [--trace N]
+                                     opens and runs, or goes on from the state in FILE if it is there
+       rcm pages MODULE STATE [--address A] [--svg FILE]
+                                     the memory of a state: a table, the object at an address, a picture
+exit status: 0 done, accepted or ended; 1 wrong usage or bad input; 2 refused; 3 stopped; 4 running
 ";
 
 /// What a command is given: the calls, and where it writes.
@@ -26,6 +37,19 @@ pub struct Session<'s> {
     pub machine: Option<&'s mut dyn Interface>,
     pub out: &'s mut dyn Write,
     pub error: &'s mut dyn Write,
+    /// Standard error is a terminal.
+    pub terminal: bool,
+}
+
+impl Session<'_> {
+    fn machine(&mut self) -> Result<&mut dyn Interface, String> {
+        match &mut self.machine {
+            Some(machine) => Ok(&mut **machine),
+            None => Err("built without the proved library: only asm and dis are here; build with \
+                 --features librcm and RCM_LIB_DIR"
+                .to_string()),
+        }
+    }
 }
 
 /// A command's exit status, or the message of what is wrong with its input.
@@ -37,6 +61,9 @@ pub fn run(words: &[String], session: &mut Session) -> u8 {
         Some((command, rest)) => match command.as_str() {
             "asm" => assembly::asm(rest, session),
             "dis" => assembly::dis(rest, session),
+            "check" => verdict::check(rest, session),
+            "run" => going::run(rest, session),
+            "pages" => pages::pages(rest, session),
             "help" | "--help" | "-h" => print(session.out, USAGE),
             _ => Err(format!("there is no command `{command}`\n{USAGE}")),
         },
@@ -52,6 +79,10 @@ pub fn run(words: &[String], session: &mut Session) -> u8 {
 fn print(out: &mut dyn Write, text: &str) -> Outcome {
     out.write_all(text.as_bytes()).map_err(|error| format!("writing: {error}"))?;
     Ok(DONE)
+}
+
+fn counted(count: u64, what: &str) -> String {
+    format!("{count} {what}{}", if count == 1 { "" } else { "s" })
 }
 
 fn read(name: &str) -> Result<Vec<u8>, String> {
