@@ -1,10 +1,10 @@
-//! The examples: each text gives its module, its module gives the text's records again, and the
-//! answers are those that its lines `#:` say. `accepted` alone says nothing of the counts, and an
-//! ended run's output is compared whole.
+//! The examples through the tool: each text gives its module, its module gives the text's records
+//! again, and the answers are those that its lines `#:` say. `accepted` alone says nothing of the
+//! counts.
 
-use reference::host;
-use reference::state::{OUTPUT_BYTES, STATE_BYTES};
-use reference::text::{assemble, disassemble};
+mod common;
+
+use common::{new_folder, rcm, repository};
 use std::path::{Path, PathBuf};
 
 /// All texts in a folder and its folders.
@@ -38,40 +38,41 @@ fn bytes(text: &str) -> Vec<u8> {
     bytes
 }
 
-/// What a module does, in the words of the examples.
-fn answers(file: &[u8], form: &[u8]) -> Vec<String> {
-    let verdict = host::check(file);
-    if verdict[0] == host::REFUSED {
-        return vec![format!("refused {} {}", verdict[1], verdict[2])];
-    }
-    let [_, terms, names, rest] = verdict;
-    let accepted = format!("accepted {terms} {names} {} {}", rest >> 16, rest & 0xffff);
-    let mut state = vec![0; STATE_BYTES];
-    let mut output = vec![0; OUTPUT_BYTES];
-    assert_eq!(host::open(file, &[], &mut state)[0], host::GOOD);
-    let [answer, value, steps, _] = host::go(file, form, &mut state, &mut output, 1_000_000_000);
-    let went = match answer {
-        host::ENDED => format!("ended {value} {steps}"),
-        host::STOPPED => format!("stopped {value} {steps}"),
-        other => panic!("answer {other}"),
+/// What the tool says of a text, in the words of the examples.
+fn answers(folder: &Path, text: &Path, form: &[u8]) -> Vec<String> {
+    let file = |name: &str| folder.join(name).display().to_string();
+    let text = text.display().to_string();
+    let (module, again, source) = (file("module"), file("again"), file("text"));
+    let first = |words: &[&str]| {
+        let (_, out, error) = rcm(words, false);
+        out.lines().next().unwrap_or(&error).to_string()
     };
-    output.truncate(usize::from(u16::from_le_bytes([state[2], state[3]])));
-    vec![accepted, went, format!("output {output:?}")]
+    assert_eq!(rcm(&["asm", &text, "-o", &module], false).0, 0, "{text}");
+    std::fs::write(&source, rcm(&["dis", &module], false).1).expect("a text");
+    assert_eq!(rcm(&["asm", &source, "-o", &again], false).0, 0, "{text}");
+    let read = |name: &str| std::fs::read(name).expect("a file");
+    assert!(read(&module) == read(&again), "{text}");
+    let verdict = first(&["check", &module]);
+    if verdict.starts_with("refused") {
+        return vec![verdict];
+    }
+    let (form_name, output) = (file("form"), file("output"));
+    std::fs::write(&form_name, form).expect("a form");
+    let went = first(&["run", &module, &form_name, "--output", &output]);
+    vec![verdict, went, format!("output {:?}", read(&output))]
 }
 
 #[test]
 fn each_example_does_what_it_says() {
-    let found = texts(&Path::new(env!("CARGO_MANIFEST_DIR")).join("../examples"));
-    assert!(found.len() >= 21);
+    let folder = new_folder("examples");
+    let found = texts(&repository().join("examples"));
+    assert!(found.len() >= 22);
     let mut differences = Vec::new();
     for path in found {
-        let name = path.display();
         let text = std::fs::read_to_string(&path).expect("a text");
-        let file = assemble(&text).unwrap_or_else(|error| panic!("{name}: {error}"));
-        assert_eq!(assemble(&disassemble(&file)).as_deref(), Ok(&file[..]), "{name}");
         let said: Vec<&str> = text.lines().filter_map(|line| line.strip_prefix("#: ")).collect();
         let form = said.iter().find_map(|line| line.strip_prefix("form "));
-        let answers = answers(&file, &bytes(form.unwrap_or_default()));
+        let answers = answers(&folder, &path, &bytes(form.unwrap_or_default()));
         for line in said {
             let line = match line.strip_prefix("output ") {
                 Some(output) => format!("output {:?}", bytes(output)),
@@ -79,10 +80,10 @@ fn each_example_does_what_it_says() {
             };
             let answered = match line.as_str() {
                 "accepted" => answers[0].starts_with("accepted"),
-                _ => answers.contains(&line),
+                _ => answers.contains(&line) || line.starts_with("form"),
             };
-            if !answered && !line.starts_with("form") {
-                differences.push(format!("{name}: {line}, here {answers:?}"));
+            if !answered {
+                differences.push(format!("{}: {line}, here {answers:?}", path.display()));
             }
         }
     }

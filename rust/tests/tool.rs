@@ -1,40 +1,26 @@
-//! The tool `rcm` with the reference interpreter in the library's place: what it prints, its exit
-//! statuses, saved states, and that bad input gets a message and writes nothing.
+//! The tool `rcm`: what it prints, its exit statuses, saved states, and that bad input gets a message
+//! and writes nothing. With the feature `librcm` over the proved library, else over the reference
+//! interpreter in its place.
 
-use reference::compare::{Interface, Reference};
-use reference::tool::{run, Session, BAD_INPUT, DONE, REFUSED, RUNNING, STOPPED};
+mod common;
+
+use common::{new_folder, repository};
+use reference::tool::{BAD_INPUT, DONE, REFUSED, RUNNING, STOPPED};
 use std::path::{Path, PathBuf};
 use std::process::Command;
 
-/// A new folder for the files of one test.
 fn folder(name: &str) -> PathBuf {
-    let folder = Path::new(env!("CARGO_TARGET_TMPDIR")).join("tool").join(name);
-    let _ = std::fs::remove_dir_all(&folder);
-    std::fs::create_dir_all(&folder).expect("a folder for test files");
-    folder
+    new_folder(&format!("tool-{name}"))
 }
 
 /// Status, standard output and standard error of a command; words with an `@` in front are files of
 /// the folder.
 fn rcm_on(folder: &Path, line: &str, terminal: bool) -> (u8, String, String) {
-    let words: Vec<String> = line
-        .split_whitespace()
-        .map(|word| match word.strip_prefix('@') {
-            Some(name) => folder.join(name).display().to_string(),
-            None => word.to_string(),
-        })
-        .collect();
-    let (mut out, mut error) = (Vec::new(), Vec::new());
-    let mut machine = Reference;
-    let mut session = Session {
-        machine: Some(&mut machine as &mut dyn Interface),
-        out: &mut out,
-        error: &mut error,
-        terminal,
-    };
-    let status = run(&words, &mut session);
-    let text = |bytes: Vec<u8>| String::from_utf8(bytes).expect("text");
-    (status, text(out), text(error))
+    let words = line.split_whitespace().map(|word| match word.strip_prefix('@') {
+        Some(name) => folder.join(name).display().to_string(),
+        None => word.to_string(),
+    });
+    common::rcm(&words.collect::<Vec<_>>(), terminal)
 }
 
 fn rcm(folder: &Path, line: &str) -> (u8, String, String) {
@@ -43,7 +29,7 @@ fn rcm(folder: &Path, line: &str) -> (u8, String, String) {
 
 /// The module of an example's text as a file of the folder.
 fn example(folder: &Path, name: &str) {
-    let text = Path::new(env!("CARGO_MANIFEST_DIR")).join("../examples").join(name);
+    let text = repository().join("examples").join(name);
     let source = text.display();
     let (status, _, error) = rcm(folder, &format!("asm {source} -o @module"));
     assert_eq!(status, DONE, "{error}");

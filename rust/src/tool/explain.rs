@@ -1,6 +1,7 @@
 //! A refusal or a stop in plain words: the rule, and the block, record or instruction at its place
 //! decoded. The number and the place are the checker's; the words only follow them.
 
+use super::counted;
 use crate::checker;
 use crate::file::{block_check, Record, BLOCK_BYTES, CHECK_AT};
 use crate::host::Answer;
@@ -139,23 +140,27 @@ fn record_text(record: &Record) -> String {
 }
 
 fn term_or_struct(module: &Module, place: usize) -> Option<String> {
-    let listing = Listing::new(module, true);
     if place < module.terms.len() {
-        let text = listing.type_text(place as u8, 0);
+        let text = Listing::new(module, true).type_text(place as u8, 0);
         let of = match &module.terms[place] {
-            Term::Name { name, .. } => {
-                let regions = module.names[usize::from(*name)].regions;
-                format!(" (s{name} has {regions} regions)")
-            }
+            Term::Name { name, .. } => format!("; {}", struct_text(module, usize::from(*name))),
             _ => String::new(),
         };
         return Some(format!("record {place}: type {place}, {text}{of}"));
     }
     let number = module.names.iter().position(|name| name.place == place)?;
+    Some(format!("record {place}: {}", struct_text(module, number)))
+}
+
+fn struct_text(module: &Module, number: usize) -> String {
+    let listing = Listing::new(module, true);
     let name = &module.names[number];
     let fields = name.fields.iter().map(|&field| listing.type_text(field, name.regions));
     let fields = fields.collect::<Vec<_>>().join(", ");
-    Some(format!("record {place}: struct s{number} with {} regions {{ {fields} }}", name.regions))
+    format!(
+        "struct s{number} with {} has the fields {fields}",
+        counted(name.regions as u64, "region")
+    )
 }
 
 /// A function's regions, registers and result.

@@ -184,7 +184,7 @@ fn refused(going: &Going, name: &str, answer: Answer, session: &mut Session) -> 
         9 if form > OUTPUT_BYTES => {
             format!("refused 9 0: the form has {form} bytes, at most {OUTPUT_BYTES} are taken")
         }
-        9 => format!("refused 9 0: --arguments wants {}", wanted_arguments(&going.file)),
+        9 => format!("{name}: refused 9 0: {}", wanted_arguments(&going.file)),
         21 => format!("{name}: refused 21 0: this is no sound state of the module"),
         22 => format!("{name}: refused 22 0: this state has ended or stopped already"),
         _ => format!("refused {number} {place}"),
@@ -194,9 +194,10 @@ fn refused(going: &Going, name: &str, answer: Answer, session: &mut Session) -> 
 }
 
 fn wanted_arguments(file: &[u8]) -> String {
-    match decode(file) {
-        Ok(module) => format!("{} numbers with commas", module.functions[0].parameters),
-        Err(_) => "numbers with commas".to_string(),
+    match decode(file).map(|module| module.functions[0].parameters) {
+        Ok(0) => "function 0 takes no arguments".to_string(),
+        Ok(count) => format!("--arguments wants {}, with commas", counted(count as u64, "number")),
+        Err(_) => "the arguments do not fit".to_string(),
     }
 }
 
