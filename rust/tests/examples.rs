@@ -48,7 +48,7 @@ fn answers(folder: &Path, text: &Path, form: &[u8]) -> Vec<String> {
         out.lines().next().unwrap_or(&error).to_string()
     };
     assert_eq!(rcm(&["asm", &text, "-o", &module], false).0, 0, "{text}");
-    std::fs::write(&source, rcm(&["dis", &module], false).1).expect("a text");
+    std::fs::write(&source, rcm(&["dis", &module, "--raw"], false).1).expect("a text");
     assert_eq!(rcm(&["asm", &source, "-o", &again], false).0, 0, "{text}");
     let read = |name: &str| std::fs::read(name).expect("a file");
     assert!(read(&module) == read(&again), "{text}");
@@ -56,6 +56,9 @@ fn answers(folder: &Path, text: &Path, form: &[u8]) -> Vec<String> {
     if verdict.starts_with("refused") {
         return vec![verdict];
     }
+    // The texts have no type lines and come back without them.
+    let back = String::from_utf8(read(&source)).expect("text");
+    assert!(!back.contains("type t0"), "{text}\n{back}");
     let (form_name, output) = (file("form"), file("output"));
     std::fs::write(&form_name, form).expect("a form");
     let went = first(&["run", &module, &form_name, "--output", &output]);

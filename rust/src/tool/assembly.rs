@@ -1,6 +1,8 @@
 //! `rcm asm` and `rcm dis`.
 
 use super::{print, read, write, Outcome, Session, Words, DONE};
+use crate::file::Refusal;
+use crate::module::decode;
 use crate::text::{assemble, disassemble};
 
 /// Writes the module file of a text.
@@ -13,12 +15,18 @@ pub fn asm(words: &[String], _: &mut Session) -> Outcome {
     let file = assemble(&text).map_err(|error| {
         format!("{source}:{}:{}: {}", error.place.line, error.place.column, error.message)
     })?;
-    write(target, &file)?;
+    write(&[(target, &file)])?;
     Ok(DONE)
 }
 
-/// Prints the text of a module file.
+/// Prints the text of a module file. What is no module is listed record by record, if asked for.
 pub fn dis(words: &[String], session: &mut Session) -> Outcome {
-    let [source] = Words::new(words, &[])?.exactly()?;
-    print(session.out, &disassemble(&read(source)?))
+    let words = Words::new(words, &["--raw"])?;
+    let [source] = words.exactly()?;
+    let file = read(source)?;
+    if let (Err(Refusal { number, place, asked }), None) = (decode(&file), words.option("--raw")) {
+        let reason = format!("refusal {number} at {place}, asked: {asked}");
+        return Err(format!("{source} is no module ({reason}); --raw lists its records"));
+    }
+    print(session.out, &disassemble(&file))
 }

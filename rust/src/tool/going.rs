@@ -86,13 +86,13 @@ pub fn run(words: &[String], session: &mut Session) -> Outcome {
         print(session.out, &text)?;
     }
     print(session.out, &answer_text(&module, &going, answer))?;
+    let mut files = Vec::new();
     match words.option("--output") {
-        Some(name) => write(name, &going.output[..going.written()])?,
+        Some(name) => files.push((name, &going.output[..going.written()])),
         None => show_output(&going, shown_from, session)?,
     }
-    if let Some(name) = words.option("--state") {
-        write(name, &going.state)?;
-    }
+    files.extend(words.option("--state").map(|name| (name, &going.state[..])));
+    write(&files)?;
     Ok(match answer[0] {
         host::ENDED => DONE,
         host::STOPPED => STOPPED,

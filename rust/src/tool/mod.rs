@@ -10,7 +10,6 @@ mod verdict;
 
 use crate::compare::Interface;
 use std::io::Write;
-use std::path::Path;
 
 /// Exit statuses: done, accepted or ended.
 pub const DONE: u8 = 0;
@@ -22,7 +21,7 @@ pub const RUNNING: u8 = 4;
 
 const USAGE: &str = "\
 usage: rcm asm FILE -o MODULE        the module file of a text
-       rcm dis MODULE                the text of a module file
+       rcm dis MODULE [--raw]        the text of a module file; --raw also lists what is no module
        rcm check MODULE              the verdict, a refusal in plain words
        rcm run MODULE FORM [--budget N] [--arguments N,N,..] [--state FILE] [--output FILE] [--trace N]
                                      opens and runs, or goes on from the state in FILE if it is there
@@ -89,31 +88,45 @@ fn read(name: &str) -> Result<Vec<u8>, String> {
     std::fs::read(name).map_err(|error| format!("{name}: {error}"))
 }
 
-/// Writes a file whole: beside its place first, so that a failure leaves what was there.
-fn write(name: &str, bytes: &[u8]) -> Result<(), String> {
-    let path = Path::new(name);
-    let mut beside = path.as_os_str().to_os_string();
-    beside.push(".part");
-    let written = std::fs::write(&beside, bytes).and_then(|()| std::fs::rename(&beside, path));
-    written.map_err(|error| {
-        let _ = std::fs::remove_file(&beside);
-        format!("{name}: {error}")
-    })
+/// Writes files whole: all of them beside their places first, so that a failure leaves what was
+/// there.
+fn write(files: &[(&str, &[u8])]) -> Result<(), String> {
+    let beside = |name: &str| format!("{name}.part");
+    let write_all = || {
+        for (name, bytes) in files {
+            std::fs::write(beside(name), bytes).map_err(|error| format!("{name}: {error}"))?;
+        }
+        for (name, _) in files {
+            std::fs::rename(beside(name), name).map_err(|error| format!("{name}: {error}"))?;
+        }
+        Ok(())
+    };
+    let written = write_all();
+    if written.is_err() {
+        for (name, _) in files {
+            let _ = std::fs::remove_file(beside(name));
+        }
+    }
+    written
 }
 
-/// Words of a command line: those that stand alone, and options with their values.
+/// Words of a command line: those that stand alone, and options with their values. A flag has none.
 struct Words<'w> {
     plain: Vec<&'w str>,
     options: Vec<(&'w str, &'w str)>,
 }
 
+const FLAGS: [&str; 1] = ["--raw"];
+
 impl<'w> Words<'w> {
-    /// Each known option takes a value; other words that begin with `-` are refused.
+    /// Each known option takes a value, flags do not; other words that begin with `-` are refused.
     fn new(words: &'w [String], known: &[&str]) -> Result<Words<'w>, String> {
         let mut found = Words { plain: Vec::new(), options: Vec::new() };
         let mut words = words.iter().map(String::as_str);
         while let Some(word) = words.next() {
-            if known.contains(&word) {
+            if known.contains(&word) && FLAGS.contains(&word) {
+                found.options.push((word, ""));
+            } else if known.contains(&word) {
                 let value = words.next().ok_or(format!("{word} wants a value\n{USAGE}"))?;
                 found.options.push((word, value));
             } else if word.len() > 1 && word.starts_with('-') {

@@ -82,7 +82,7 @@ pub fn pages(words: &[String], session: &mut Session) -> Outcome {
         print(session.out, &view.object_text(address))?;
     }
     if let Some(name) = words.option("--svg") {
-        write(name, picture(&view).as_bytes())?;
+        write(&[(name, picture(&view).as_bytes())])?;
     }
     Ok(DONE)
 }
