@@ -4,14 +4,13 @@
 
 fn main() -> i32 {
     reg state, factor, step, sum, high, shift, one, odd, left: i32
-    reg more: i8
 
     state = 12345
     factor = 1103515245
     step = 12345
     shift = 16
     one = 1
-    left = 1000000
+    left = 1250000
 next:
     state = state * factor
     state = state + step
@@ -20,9 +19,6 @@ next:
     odd = high & one
     sum = sum ^ odd
     left = left - one
-    more = left == shift
-    if more goto done
-    goto next
-done:
+    if left goto next
     return sum
 }
