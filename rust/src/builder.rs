@@ -5,8 +5,8 @@ use crate::file::{
     block_check, Record, BLOCK_BYTES, CHECK_AT, RECORDS_AT, RECORDS_PER_BLOCK, RECORD_BYTES,
 };
 use crate::module::{
-    KIND_ARGUMENTS, KIND_ARRAY, KIND_CALL, KIND_FIELDS, KIND_FUNCTION, KIND_INTEGER, KIND_NAME,
-    KIND_NAME_TERM, KIND_POINTER, KIND_REGION_TYPES, KIND_REGISTER_TYPES, MAX_LIST,
+    Module, Term, KIND_ARGUMENTS, KIND_ARRAY, KIND_CALL, KIND_FIELDS, KIND_FUNCTION, KIND_INTEGER,
+    KIND_NAME, KIND_NAME_TERM, KIND_POINTER, KIND_REGION_TYPES, KIND_REGISTER_TYPES, MAX_LIST,
 };
 
 pub fn record(kind: u8, a: u8, b: u8, c: u8, d: u32) -> Record {
@@ -76,6 +76,23 @@ pub struct FunctionBuilder {
 impl ModuleBuilder {
     pub fn new() -> ModuleBuilder {
         ModuleBuilder::default()
+    }
+
+    /// The terms and names of a module, no function yet.
+    pub fn of(module: &Module) -> ModuleBuilder {
+        let mut builder = ModuleBuilder::new();
+        for term in &module.terms {
+            match term {
+                Term::Integer { width } => builder.integer(*width),
+                Term::Pointer { target, region } => builder.pointer(*target, *region),
+                Term::Array { element, count } => builder.array(*element, *count),
+                Term::Name { name, arguments } => builder.name_term(*name, arguments),
+            };
+        }
+        for name in &module.names {
+            builder.name(name.regions as u8, &name.fields);
+        }
+        builder
     }
 
     pub fn term(&mut self, record: Record) -> u8 {

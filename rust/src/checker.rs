@@ -2,7 +2,7 @@
 //! instructions" and "From the input").
 
 use crate::file::Refusal;
-use crate::module::{decode, Function, Instruction, Module, Term};
+use crate::module::{decode, Function, Instruction, Module, Term, FIRST_CODE_KIND};
 use crate::types::{regions_used, sizes, Type, TypeId, Types, Variable, IDENTITY, MAX_SIZE};
 
 const I8: u8 = 1;
@@ -11,53 +11,57 @@ const I32: u8 = 4;
 /// An accepted module, or the first broken rule.
 pub fn check(file: &[u8]) -> Result<Module, Refusal> {
     let module = decode(file)?;
-    if let Some(place) = sizes_fault(&module) {
-        return Err(Refusal::at(5, place));
+    if let Some((place, asked)) = sizes_fault(&module) {
+        return Err(Refusal::asking(5, place, asked));
     }
-    let ill_formed = |(number, function): (usize, &Function)| {
-        (!function_fits(&module, number, function)).then_some(function.place)
-    };
-    if let Some(place) = module.functions.iter().enumerate().find_map(ill_formed) {
-        return Err(Refusal::at(6, place));
+    for (number, function) in module.functions.iter().enumerate() {
+        let fits = function_fits(&module, number, function);
+        fits.map_err(|asked| Refusal::asking(6, function.place, asked))?;
     }
-    if let Some(place) = typing_fault(&module) {
-        return Err(Refusal::at(7, place));
+    if let Some((place, asked)) = typing_fault(&module) {
+        return Err(Refusal::asking(7, place, asked));
     }
     for function in &module.functions {
         let last = function.code.last().expect("at least one instruction");
         if last.kind != 31 && last.kind != 34 {
-            return Err(Refusal::at(8, last.place));
+            let asked = "the last instruction of a function is a jump or a return";
+            return Err(Refusal::asking(8, last.place, asked));
         }
     }
     Ok(module)
 }
 
 /// The first term or name without size, over 256 bytes, with a wrong argument count or with a
-/// field that uses a region its name lacks. Terms stand before names.
-fn sizes_fault(module: &Module) -> Option<usize> {
+/// field that uses a region its name lacks, and what is asked. Terms stand before names.
+fn sizes_fault(module: &Module) -> Option<(usize, &'static str)> {
+    const SIZED: &str =
+        "a size of at most 256 bytes; outside pointers a struct holds only earlier structs";
     let sizes = sizes(module);
-    let bad_term = |(term, size): (&Term, &u32)| {
-        let wrong_count = match term {
-            Term::Name { name, arguments } => {
-                module.names[usize::from(*name)].regions != arguments.len()
+    for (number, (term, &size)) in module.terms.iter().zip(&sizes.terms).enumerate() {
+        if size > MAX_SIZE {
+            return Some((number, SIZED));
+        }
+        if let Term::Name { name, arguments } = term {
+            if module.names[usize::from(*name)].regions != arguments.len() {
+                return Some((number, "as many regions as the struct has"));
             }
-            _ => false,
-        };
-        *size > MAX_SIZE || wrong_count
-    };
-    if let Some(term) = module.terms.iter().zip(&sizes.terms).position(bad_term) {
-        return Some(term);
+        }
     }
-    let mut names = module.names.iter().zip(&sizes.names);
-    let bad_name = names.find(|(name, &size)| {
+    for (name, &size) in module.names.iter().zip(&sizes.names) {
         let lacks = |&field: &u8| regions_used(module, field) > name.regions;
-        size > MAX_SIZE || name.fields.iter().any(lacks)
-    });
-    bad_name.map(|(name, _)| name.place)
+        if size > MAX_SIZE {
+            return Some((name.place, SIZED));
+        }
+        if name.fields.iter().any(lacks) {
+            return Some((name.place, "fields that use only the struct's own regions"));
+        }
+    }
+    None
 }
 
-/// Refusal 6 does not hold of this function.
-fn function_fits(module: &Module, number: usize, function: &Function) -> bool {
+/// Refusal 6 does not hold of this function; else what is asked.
+fn function_fits(module: &Module, number: usize, function: &Function) -> Result<(), &'static str> {
+    let asks = |condition: bool, what: &'static str| condition.then_some(()).ok_or(what);
     let primitive = |&term: &u8| {
         let form = &module.terms[usize::from(term)];
         matches!(form, Term::Integer { .. } | Term::Pointer { .. })
@@ -67,28 +71,63 @@ fn function_fits(module: &Module, number: usize, function: &Function) -> bool {
     let inner = function.region_types.len();
     let (parameters, locals) = function.register_types.split_at(function.parameters);
     let (parameter_regions, local_regions) = function.region_types.split_at(outer);
-    let fits = function.register_types.iter().all(primitive)
-        && primitive(&function.return_term)
-        && parameters.iter().all(within(outer))
-        && parameter_regions.iter().all(within(outer))
-        && within(outer)(&function.return_term)
-        && locals.iter().all(within(inner))
-        && local_regions.iter().all(within(inner));
+    asks(function.register_types.iter().all(primitive), "registers are integers or pointers")?;
+    asks(primitive(&function.return_term), "the result is an integer or a pointer")?;
+    asks(parameters.iter().all(within(outer)), "parameters use only region parameters")?;
+    asks(
+        parameter_regions.iter().all(within(outer)),
+        "the types of region parameters use only region parameters",
+    )?;
+    asks(
+        within(outer)(&function.return_term),
+        "the result uses only region parameters: local regions close with the return",
+    )?;
+    asks(locals.iter().all(within(inner)), "registers use only the function's regions")?;
+    asks(
+        local_regions.iter().all(within(inner)),
+        "the types of local regions use only the function's regions",
+    )?;
     if number > 0 {
-        return fits;
+        return Ok(());
     }
     let i32_term = |&term: &u8| module.terms[usize::from(term)] == Term::Integer { width: I32 };
-    fits && outer == 0 && parameters.iter().all(i32_term) && i32_term(&function.return_term)
+    asks(outer == 0, "function 0 has no region parameters")?;
+    asks(parameters.iter().all(i32_term), "the parameters of function 0 are i32")?;
+    asks(i32_term(&function.return_term), "the result of function 0 is i32")
 }
 
-/// The first instruction that breaks its rule.
-fn typing_fault(module: &Module) -> Option<usize> {
+/// The rule of each kind in words, from kind 16 on.
+const RULES: [&str; 19] = [
+    "a constant fits its register, an integer",
+    "a copy's registers have equal types",
+    "an operation's operands are equal integers and its result is of that type; a quotient to the nearest is of i32; comparisons give i8",
+    "a conversion is from integer to integer",
+    "a conversion is from integer to integer",
+    "the address of a pointer goes into an i32",
+    "a check makes a pointer from an i32 or a pointer",
+    "a field's pointer stays in its region and points to primitives that stand at this position of the target",
+    "an index goes by an i32 into a pointer's array and gives a pointer to its element in the same region",
+    "a load's register has the type that its pointer points to",
+    "a stored register has the type that its pointer points to",
+    "a new object's pointer has a target with the primitives of its region's type",
+    "a freed object's pointer has a target with the primitives of its region's type",
+    "a byte of the form goes by an i32 into an i8",
+    "an i8 goes to the output",
+    "a jump has no rule",
+    "a branch looks at an integer",
+    "the types of a call's regions, arguments and result equal the callee's, with the regions put in",
+    "a returned register has the function's return type",
+];
+
+/// The first instruction that breaks its rule, and the rule.
+fn typing_fault(module: &Module) -> Option<(usize, &'static str)> {
     let mut types = Types::new(module);
     for function in &module.functions {
         let mut typing = Typing::new(module, &mut types, function);
         let fault = function.code.iter().find(|instruction| typing.rule(instruction).is_none());
         if let Some(instruction) = fault {
-            return Some(instruction.place);
+            let rule = RULES[usize::from(instruction.kind - FIRST_CODE_KIND)];
+            return Some((instruction.place, rule));
         }
     }
     None

@@ -10,16 +10,30 @@ pub const RECORDS_AT: usize = 4;
 /// The check's byte in a block.
 pub const CHECK_AT: usize = 508;
 
-/// A refusal's number and place.
-#[derive(Clone, Copy, PartialEq, Eq, Debug)]
+/// A refusal's number and place, and for people what was asked there.
+#[derive(Clone, Copy, Debug)]
 pub struct Refusal {
     pub number: u8,
     pub place: usize,
+    pub asked: &'static str,
 }
+
+/// The words do not count.
+impl PartialEq for Refusal {
+    fn eq(&self, other: &Refusal) -> bool {
+        (self.number, self.place) == (other.number, other.place)
+    }
+}
+
+impl Eq for Refusal {}
 
 impl Refusal {
     pub fn at(number: u8, place: usize) -> Refusal {
-        Refusal { number, place }
+        Refusal { number, place, asked: "" }
+    }
+
+    pub fn asking(number: u8, place: usize, asked: &'static str) -> Refusal {
+        Refusal { number, place, asked }
     }
 }
 
@@ -69,17 +83,25 @@ pub fn block_check(block: &[u8]) -> u32 {
 pub fn records(file: &[u8]) -> Result<Vec<Record>, Refusal> {
     let count = file.len() / BLOCK_BYTES;
     if !file.len().is_multiple_of(BLOCK_BYTES) || count == 0 || count > MAX_BLOCKS {
-        return Err(Refusal::at(1, 0));
+        return Err(Refusal::asking(1, 0, "a file has 1 to 64 blocks of 512 bytes"));
     }
     let mut records = Vec::with_capacity(count * RECORDS_PER_BLOCK);
     for (place, block) in file.chunks_exact(BLOCK_BYTES).enumerate() {
         let written_place = usize::from(u16::from_le_bytes([block[0], block[1]]));
         let written_count = usize::from(u16::from_le_bytes([block[2], block[3]]));
         if written_place != place || written_count != count {
-            return Err(Refusal::at(2, place));
+            return Err(Refusal::asking(
+                2,
+                place,
+                "a block says its place and the number of blocks",
+            ));
         }
         if block[CHECK_AT..] != block_check(block).to_le_bytes() {
-            return Err(Refusal::at(3, place));
+            return Err(Refusal::asking(
+                3,
+                place,
+                "a block ends with the sum of its weighted bytes",
+            ));
         }
         for bytes in block[RECORDS_AT..CHECK_AT].chunks_exact(RECORD_BYTES) {
             records.push(Record(bytes.try_into().expect("chunks of eight bytes")));

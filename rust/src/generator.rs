@@ -744,18 +744,7 @@ pub fn draw(rng: &mut Prng) -> Sample {
 
 /// The records of a module.
 pub fn records(module: &Module) -> Vec<Record> {
-    let mut builder = ModuleBuilder::new();
-    for term in &module.terms {
-        match term {
-            Term::Integer { width } => builder.integer(*width),
-            Term::Pointer { target, region } => builder.pointer(*target, *region),
-            Term::Array { element, count } => builder.array(*element, *count),
-            Term::Name { name, arguments } => builder.name_term(*name, arguments),
-        };
-    }
-    for name in &module.names {
-        builder.name(name.regions as u8, &name.fields);
-    }
+    let mut builder = ModuleBuilder::of(module);
     for function in &module.functions {
         let mut code = Vec::new();
         for i in &function.code {

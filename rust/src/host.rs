@@ -23,7 +23,7 @@ const FUNCTIONS_UNIT: u64 = 65_536;
 
 fn answer(result: Result<Answer, Refusal>) -> Answer {
     result.unwrap_or_else(|refusal| {
-        let Refusal { number, place } = refusal;
+        let Refusal { number, place, .. } = refusal;
         [REFUSED, u64::from(number), place as u64, 0]
     })
 }

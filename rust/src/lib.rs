@@ -15,8 +15,12 @@ pub mod host;
 pub mod library;
 pub mod machine;
 pub mod module;
+#[cfg(feature = "plain")]
+pub mod plain;
 pub mod prng;
 pub mod state;
 pub mod state_test;
 pub mod tally;
+pub mod text;
+pub mod tool;
 pub mod types;

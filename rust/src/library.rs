@@ -1,52 +1,56 @@
-//! The proved library through the C interface (`librcm.a`, include/rcm.h), with the feature `librcm` and the folder of the
-//! library in the environment variable RCM_LIB_DIR. Its answers are filled in before each call with numbers that no call gives,
-//! so that entries left unwritten show.
+//! The proved library through its C interface, built with the feature `librcm` and the folder of
+//! `librcm.a` in the environment variable RCM_LIB_DIR.
 
 use crate::compare::Interface;
 use crate::host::Answer;
 
+#[allow(non_camel_case_types)]
+type size_t = usize;
+
 extern "C" {
-    fn rcm_check(file: *const u8, file_len: usize, answer: *mut u64);
+    fn rcm_check(file: *const u8, file_len: size_t, answer: *mut u64);
     fn rcm_open(
         file: *const u8,
-        file_len: usize,
+        file_len: size_t,
         arguments: *const u8,
-        arguments_len: usize,
+        arguments_len: size_t,
         state: *mut u8,
-        state_len: usize,
+        state_len: size_t,
         answer: *mut u64,
     );
     fn rcm_go(
         file: *const u8,
-        file_len: usize,
+        file_len: size_t,
         form: *const u8,
-        form_len: usize,
+        form_len: size_t,
         state: *mut u8,
-        state_len: usize,
+        state_len: size_t,
         output: *mut u8,
-        output_len: usize,
+        output_len: size_t,
         budget: u64,
         answer: *mut u64,
     );
     fn rcm_test(
         file: *const u8,
-        file_len: usize,
+        file_len: size_t,
         state: *const u8,
-        state_len: usize,
+        state_len: size_t,
         answer: *mut u64,
     );
     fn rcm_object(
         file: *const u8,
-        file_len: usize,
+        file_len: size_t,
         state: *const u8,
-        state_len: usize,
+        state_len: size_t,
         address: u32,
         answer: *mut u64,
     );
 }
 
+/// An answer that no call gives, so that entries left unwritten show.
 const UNWRITTEN: Answer = [u64::MAX; 4];
 
+/// The proved library.
 pub struct Library;
 
 // The slices are valid for their lengths, not null and apart from one another and the answer.

@@ -60,6 +60,15 @@ pub struct Instruction {
     pub arguments: [u8; MAX_LIST],
 }
 
+impl Instruction {
+    /// The registers among a, b, c.
+    pub fn registers(&self) -> Vec<u8> {
+        let classes = OPERANDS[usize::from(self.kind - FIRST_CODE_KIND)];
+        let operands = [self.a, self.b, self.c].into_iter().zip(classes);
+        operands.filter(|(_, class)| *class == Operand::Register).map(|(value, _)| value).collect()
+    }
+}
+
 /// A function. `place` is its record 7; `region_types` has parameters first, then locals.
 #[derive(Clone, PartialEq, Eq, Debug)]
 pub struct Function {
@@ -228,37 +237,72 @@ impl Walk<'_> {
         Some(())
     }
 
-    /// The lowest record at fault: one before the break, or the break itself.
-    fn first_fault(&self) -> Option<usize> {
-        let fits = |(record, role): (&Record, &Role)| self.record_fits(record, *role);
-        let fault = self.records.iter().zip(&self.roles).position(|pair| !fits(pair));
-        fault.or(self.broken.then_some(self.roles.len()))
+    /// The lowest record at fault, one before the break or the break itself, and what was asked.
+    fn first_fault(&self) -> Option<(usize, &'static str)> {
+        let pairs = self.records.iter().zip(&self.roles).enumerate();
+        let mut faults = pairs.filter_map(|(place, (record, role))| {
+            self.record_fits(record, *role).err().map(|asked| (place, asked))
+        });
+        faults.next().or(self.broken.then(|| (self.roles.len(), self.wanted())))
+    }
+
+    /// What should stand where the walk breaks.
+    fn wanted(&self) -> &'static str {
+        let lists = |function: usize| {
+            let roles = self.roles.iter();
+            roles.filter(|role| matches!(role, Role::RegisterTypes { function: of, .. } if *of == function)).count()
+        };
+        let Some(role) = self.roles.last() else {
+            return "a type, a struct or a function (kinds 1 to 5, 7) stands here";
+        };
+        match *role {
+            Role::Name(_) => "the struct's fields (kind 6) stand here",
+            Role::Function(function) if written_regions(&self.functions[function]) > 0 => {
+                "the function's region types (kind 8) stand here"
+            }
+            Role::Function(function)
+            | Role::RegionTypes(function)
+            | Role::RegisterTypes { function, .. }
+                if MAX_LIST * lists(function) < usize::from(self.functions[function].c()) =>
+            {
+                "register types (kind 9), seven to a record, stand here"
+            }
+            Role::Instruction(_) if self.records[self.roles.len() - 1].kind() == KIND_CALL => {
+                "a call's arguments (kind 35) stand here"
+            }
+            Role::Instruction(function) | Role::Arguments { function, .. }
+                if self.instructions_of(function)
+                    == written_instructions(&self.functions[function]) =>
+            {
+                "a function (kind 7) or filler (kind 0) stands here"
+            }
+            Role::Term(_) | Role::Fields { .. } | Role::Filler => {
+                "a type, a struct or a function stands here, types before structs before functions"
+            }
+            _ => "an instruction (kinds 16 to 34) stands here, as many as the function says",
+        }
+    }
+
+    fn instructions_of(&self, function: usize) -> usize {
+        let roles = self.roles.iter();
+        roles.filter(|role| matches!(role, Role::Instruction(of) if *of == function)).count()
     }
 
     /// No value of this record is out of its range, names nothing or is set without use.
-    fn record_fits(&self, record: &Record, role: Role) -> bool {
+    fn record_fits(&self, record: &Record, role: Role) -> Fits {
         match role {
-            Role::Term(number) => number < MAX_TERMS && self.term_fits(record, number),
+            Role::Term(number) => {
+                asks(number < MAX_TERMS, "at most 128 types")?;
+                self.term_fits(record, number)
+            }
             Role::Name(number) => {
-                number < MAX_NAMES
-                    && usize::from(record.a()) <= MAX_REGION_PARAMETERS
-                    && (1..=MAX_LIST).contains(&usize::from(record.b()))
-                    && record.c() == 0
-                    && record.d() == 0
+                asks(number < MAX_NAMES, "at most 32 structs")?;
+                asks(usize::from(record.a()) <= MAX_REGION_PARAMETERS, "0 to 4 regions (a)")?;
+                asks((1..=MAX_LIST).contains(&usize::from(record.b())), "1 to 7 fields (b)")?;
+                asks(record.c() == 0 && record.d() == 0, "c and d are not used and zero")
             }
             Role::Fields { header } => self.term_list_fits(record, usize::from(header.b())),
-            Role::Function(number) => {
-                let registers = usize::from(record.c());
-                let parameters = written_parameters(record);
-                number < MAX_FUNCTIONS
-                    && usize::from(record.a()) <= MAX_REGION_PARAMETERS
-                    && written_regions(record) <= MAX_REGIONS
-                    && (1..=MAX_REGISTERS).contains(&registers)
-                    && usize::from(written_return(record)) < self.terms
-                    && parameters <= MAX_LIST
-                    && parameters <= registers
-                    && (1..=MAX_INSTRUCTIONS).contains(&written_instructions(record))
-            }
+            Role::Function(number) => self.header_fits(record, number),
             Role::RegionTypes(function) => {
                 self.term_list_fits(record, written_regions(&self.functions[function]))
             }
@@ -266,75 +310,110 @@ impl Walk<'_> {
                 let registers = usize::from(self.functions[function].c());
                 self.term_list_fits(record, registers - from)
             }
-            Role::Instruction(function) => {
-                let header = &self.functions[function];
-                let d = record.d();
-                let classes = OPERANDS[usize::from(record.kind() - FIRST_CODE_KIND)];
-                let values = [record.a(), record.b(), record.c()].map(u32::from);
-                let operands = values.into_iter().chain([d]).zip(classes);
-                operands.into_iter().all(|(value, class)| match class {
-                    Operand::Unused => value == 0,
-                    Operand::Register => value < u32::from(header.c()),
-                    Operand::Any => true,
-                    Operand::Operation => value <= LAST_OPERATION,
-                    Operand::Target => (value as usize) < written_instructions(header),
-                    Operand::Function => {
-                        !self.functions_ended || (value as usize) < self.functions.len()
-                    }
-                    Operand::Regions => {
-                        let used = self.callee(record.b()).map(|callee| usize::from(callee.a()));
-                        list_fits(&record.d_bytes(), used, written_regions(header))
-                    }
-                })
-            }
+            Role::Instruction(function) => self.instruction_fits(record, function),
             Role::Arguments { function, callee } => {
                 let used = self.callee(callee).map(written_parameters);
                 let registers = usize::from(self.functions[function].c());
-                list_fits(&record.list(), used, registers)
+                let fits = list_fits(&record.list(), used, registers);
+                asks(fits, "a register of the caller for each parameter of the callee, then zeros")
             }
-            Role::Filler => record.0 == [0; 8],
+            Role::Filler => asks(record.0 == [0; 8], "filler is all zero"),
         }
     }
 
-    fn term_fits(&self, record: &Record, number: usize) -> bool {
+    fn header_fits(&self, record: &Record, number: usize) -> Fits {
+        let registers = usize::from(record.c());
+        let parameters = written_parameters(record);
+        asks(number < MAX_FUNCTIONS, "at most 32 functions")?;
+        asks(usize::from(record.a()) <= MAX_REGION_PARAMETERS, "0 to 4 region parameters (a)")?;
+        asks(written_regions(record) <= MAX_REGIONS, "at most 7 regions (a + b)")?;
+        asks((1..=MAX_REGISTERS).contains(&registers), "1 to 28 registers (c)")?;
+        asks(usize::from(written_return(record)) < self.terms, "a return type that is there")?;
+        asks(parameters <= MAX_LIST, "0 to 7 parameters (byte 5)")?;
+        asks(parameters <= registers, "no more parameters than registers")?;
+        let instructions = written_instructions(record);
+        asks((1..=MAX_INSTRUCTIONS).contains(&instructions), "1 to 1,024 instructions")
+    }
+
+    fn instruction_fits(&self, record: &Record, function: usize) -> Fits {
+        let header = &self.functions[function];
+        let d = record.d();
+        let classes = OPERANDS[usize::from(record.kind() - FIRST_CODE_KIND)];
+        let values = [record.a(), record.b(), record.c()].map(u32::from);
+        for (value, class) in values.into_iter().chain([d]).zip(classes) {
+            match class {
+                Operand::Unused => asks(value == 0, "bytes that the kind does not use are zero"),
+                Operand::Register => {
+                    asks(value < u32::from(header.c()), "registers that the function has")
+                }
+                Operand::Any => Ok(()),
+                Operand::Operation => asks(value <= LAST_OPERATION, "an operation from 0 to 13"),
+                Operand::Target => asks(
+                    (value as usize) < written_instructions(header),
+                    "a target below the function's number of instructions",
+                ),
+                Operand::Function => asks(
+                    !self.functions_ended || (value as usize) < self.functions.len(),
+                    "a function that is there",
+                ),
+                Operand::Regions => {
+                    let used = self.callee(record.b()).map(|callee| usize::from(callee.a()));
+                    let fits = list_fits(&record.d_bytes(), used, written_regions(header));
+                    asks(fits, "a region of the caller for each of the callee's, then zeros")
+                }
+            }?;
+        }
+        Ok(())
+    }
+
+    fn term_fits(&self, record: &Record, number: usize) -> Fits {
         let earlier = usize::from(record.a()) < number;
+        let region = usize::from(record.b()) < MAX_REGIONS;
+        let unused = |bytes: bool| asks(bytes, "bytes that the kind does not use are zero");
+        let (no_b, no_c, no_d) = (record.b() == 0, record.c() == 0, record.d() == 0);
         match record.kind() {
             KIND_INTEGER => {
-                matches!(record.a(), 1 | 2 | 4)
-                    && record.b() == 0
-                    && record.c() == 0
-                    && record.d() == 0
+                asks(matches!(record.a(), 1 | 2 | 4), "a width of 1, 2 or 4 bytes (a)")?;
+                unused(no_b && no_c && no_d)
             }
             KIND_POINTER => {
-                earlier
-                    && usize::from(record.b()) < MAX_REGIONS
-                    && record.c() == 0
-                    && record.d() == 0
+                asks(earlier, "a pointer's target is an earlier type (a)")?;
+                asks(region, "a region from 0 to 6 (b)")?;
+                unused(no_c && no_d)
             }
             KIND_ARRAY => {
-                earlier
-                    && record.b() == 0
-                    && record.c() == 0
-                    && (1..=MAX_ARRAY).contains(&record.d())
+                asks(earlier, "an array's element is an earlier type (a)")?;
+                asks((1..=MAX_ARRAY).contains(&record.d()), "a count from 1 to 256 (d)")?;
+                unused(no_b && no_c)
             }
             _ => {
                 let arguments = usize::from(record.b());
-                (!self.names_ended || usize::from(record.a()) < self.names)
-                    && arguments <= MAX_REGION_PARAMETERS
-                    && record.c() == 0
-                    && list_fits(&record.d_bytes(), Some(arguments), MAX_REGIONS)
+                let named = !self.names_ended || usize::from(record.a()) < self.names;
+                asks(named, "a struct that is there (a)")?;
+                asks(arguments <= MAX_REGION_PARAMETERS, "0 to 4 region arguments (b)")?;
+                let fits = list_fits(&record.d_bytes(), Some(arguments), MAX_REGIONS);
+                asks(fits, "a region from 0 to 6 for each argument, then zeros (d)")?;
+                unused(no_c)
             }
         }
     }
 
-    fn term_list_fits(&self, record: &Record, used: usize) -> bool {
-        list_fits(&record.list(), Some(used), self.terms)
+    fn term_list_fits(&self, record: &Record, used: usize) -> Fits {
+        let fits = list_fits(&record.list(), Some(used), self.terms);
+        asks(fits, "types that are there, as many as the list has, then zeros")
     }
 
     /// Record 7 of a function that the walk has reached.
     fn callee(&self, function: u8) -> Option<&Record> {
         self.functions.get(usize::from(function))
     }
+}
+
+/// Nothing, or what is asked and not so.
+type Fits = Result<(), &'static str>;
+
+fn asks(condition: bool, what: &'static str) -> Fits {
+    condition.then_some(()).ok_or(what)
 }
 
 /// The bytes in use are below the limit, the others zero. How many are in use may be unknown (of
@@ -370,8 +449,8 @@ fn written_instructions(header: &Record) -> usize {
 pub fn decode(file: &[u8]) -> Result<Module, Refusal> {
     let records = records(file)?;
     let walk = Walk::new(&records);
-    if let Some(place) = walk.first_fault() {
-        return Err(Refusal::at(4, place));
+    if let Some((place, asked)) = walk.first_fault() {
+        return Err(Refusal::asking(4, place, asked));
     }
     let mut module = Module {
         terms: Vec::with_capacity(walk.terms),

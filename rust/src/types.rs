@@ -173,6 +173,18 @@ fn term_size(module: &Module, names: &[u32], term: u8) -> u32 {
     }
 }
 
+/// How many primitives a term that has a size is made of.
+pub fn primitive_count(module: &Module, term: u8) -> u32 {
+    match &module.terms[usize::from(term)] {
+        Term::Integer { .. } | Term::Pointer { .. } => 1,
+        Term::Array { element, count } => count * primitive_count(module, *element),
+        Term::Name { name, .. } => {
+            let fields = &module.names[usize::from(*name)].fields;
+            fields.iter().map(|&field| primitive_count(module, field)).sum()
+        }
+    }
+}
+
 /// One above the highest region written in a term, under pointers too; 0 if none is.
 pub fn regions_used(module: &Module, term: u8) -> usize {
     match &module.terms[usize::from(term)] {

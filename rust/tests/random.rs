@@ -105,7 +105,7 @@ fn a_split_budget_gives_the_same() {
         assert!(split.state == whole.state && split.output == whole.output, "seed {seed}");
         if at_once.outcome != Outcome::Running {
             let before = split.clone();
-            assert_eq!(split.go(1), Err(Refusal { number: 22, place: 0 }));
+            assert_eq!(split.go(1), Err(Refusal::at(22, 0)));
             assert!(split.state == before.state && split.output == before.output);
         }
     }
@@ -178,7 +178,7 @@ fn changed_states_are_refused_or_go_on_soundly() {
         match calls::test(&session.file, &session.state) {
             [host::REFUSED, 21, 0, 0] => {
                 refused += 1;
-                assert_eq!(session.go(10), Err(Refusal { number: 21, place: 0 }));
+                assert_eq!(session.go(10), Err(Refusal::at(21, 0)));
                 assert!(session.state == changed.state && session.output == changed.output);
                 let address = rng.below(20_000) as u32;
                 assert_eq!(calls::object(&session.file, &session.state, address), [0; 4]);

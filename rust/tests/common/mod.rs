@@ -1,12 +1,15 @@
-//! A module with its buffers, as the tests of the machine and of the state run it, and the terms
-//! that their modules begin with. Each test file uses a part of it.
+//! A module with its buffers, as the tests of the machine and of the state run it, the terms that
+//! their modules begin with, and the tool `rcm` as its tests run it. Each test file uses a part.
 #![allow(dead_code)]
 
 use reference::builder::{FunctionBuilder, ModuleBuilder};
 use reference::calls;
+use reference::compare::Interface;
 use reference::file::Record;
 use reference::host::{self, Answer};
 use reference::state::{State, OUTPUT_BYTES, STATE_BYTES};
+use reference::tool;
+use std::path::{Path, PathBuf};
 
 pub const I32: u8 = 0;
 pub const I8: u8 = 1;
@@ -84,4 +87,39 @@ pub fn run(module: &ModuleBuilder, function: &FunctionBuilder) -> Answer {
     let mut module = module.clone();
     module.function(function);
     Session::open(module.file(), &[]).go(1_000_000)
+}
+
+/// The proved library with the feature `librcm`, else the reference interpreter in its place.
+#[cfg(feature = "librcm")]
+fn machine() -> impl Interface {
+    reference::library::Library
+}
+
+#[cfg(not(feature = "librcm"))]
+fn machine() -> impl Interface {
+    reference::compare::Reference
+}
+
+/// Status, standard output and standard error of the tool.
+pub fn rcm<S: ToString>(words: &[S], terminal: bool) -> (u8, String, String) {
+    let words: Vec<String> = words.iter().map(S::to_string).collect();
+    let (mut out, mut error) = (Vec::new(), Vec::new());
+    let mut machine = machine();
+    let mut session =
+        tool::Session { machine: Some(&mut machine), out: &mut out, error: &mut error, terminal };
+    let status = tool::run(&words, &mut session);
+    let text = |bytes: Vec<u8>| String::from_utf8(bytes).expect("text");
+    (status, text(out), text(error))
+}
+
+pub fn repository() -> PathBuf {
+    Path::new(env!("CARGO_MANIFEST_DIR")).join("..")
+}
+
+/// A new folder for the files of one test.
+pub fn new_folder(name: &str) -> PathBuf {
+    let folder = Path::new(env!("CARGO_TARGET_TMPDIR")).join(name);
+    let _ = std::fs::remove_dir_all(&folder);
+    std::fs::create_dir_all(&folder).expect("a folder for test files");
+    folder
 }

@@ -1,0 +1,107 @@
+# Ranks the records of a form. The form holds a count and then so many records of two bytes, a score
+# and a tag. The tags go to the output, highest score first; equal scores keep the order of their
+# arrival. Each record is put into a sorted list behind all records whose score is not lower.
+#: accepted
+#: form 6 30'a' 90'b' 30'c' 70'd' 90'e' 10'f'
+#: ended 6 335
+#: output 'b' 'e' 'd' 'a' 'c' 'f'
+
+struct entry(r) {
+    score: i8
+    tag: i8
+    next: *entry(r) in r
+}
+
+fn main() -> i32 {
+    region list: entry(list)
+    reg at, count, done, one: i32
+    reg byte: i8
+    reg more: i8
+    reg first, fresh: *entry(list) in list
+
+    byte = form[at]
+    count = unsigned byte
+    one = 1
+    at = 1
+    first = new                     # stands before the list and is never shown
+next:
+    more = done < count
+    if more goto read
+    one = show[list](first)
+    return count
+read:
+    fresh = new
+    more = fill[list](fresh, at)
+    more = insert[list](first, fresh)
+    at = at + one
+    at = at + one
+    done = done + one
+    goto next
+}
+
+# Reads the two bytes of a record at a place of the form.
+fn fill[r: entry(r)](fresh: *entry(r) in r, at: i32) -> i8 {
+    reg byte: i8
+    reg to: *i8 in r
+    reg one: i32
+
+    byte = form[at]
+    to = fresh.score
+    *to = byte
+    one = 1
+    at = at + one
+    byte = form[at]
+    to = fresh.tag
+    *to = byte
+    return byte
+}
+
+# Puts an entry behind the last one whose score is not lower.
+fn insert[r: entry(r)](before: *entry(r) in r, fresh: *entry(r) in r) -> i8 {
+    reg link, own: **entry(r) in r in r
+    reg following: *entry(r) in r
+    reg at: *i8 in r
+    reg score, other, lower: i8
+    reg there: i32
+
+    at = fresh.score
+    score = *at
+step:
+    link = before.next
+    following = *link
+    there = address following
+    if there goto compare
+    goto place
+compare:
+    at = following.score
+    other = *at
+    lower = other < score
+    if lower goto place
+    before = following
+    goto step
+place:
+    own = fresh.next
+    *own = following
+    *link = fresh
+    return score
+}
+
+# Writes the tags of a list, from its second entry on.
+fn show[r: entry(r)](entry: *entry(r) in r) -> i32 {
+    reg link: **entry(r) in r in r
+    reg at: *i8 in r
+    reg tag: i8
+    reg there: i32
+
+step:
+    link = entry.next
+    entry = *link
+    there = address entry
+    if there goto write
+    return there
+write:
+    at = entry.tag
+    tag = *at
+    output tag
+    goto step
+}
