@@ -1,0 +1,4 @@
+-- The answers of the code as those of rules' Host, and the laws that its functions go by.
+pub mod Verdicts
+pub mod First
+pub mod Opening
