@@ -1,10 +1,9 @@
 -- What a file whose records fit, and whose functions keep refusal 6's rules, gives to the code behind: terms in range, counts, types that
 -- use few regions. Assumes nothing but that, where it says so.
 use mathlib.Core.Path.{_≡_, refl, sym, ap, _∙_, subst}
-use mathlib.Core.Bool.{Bool, true, false, cond, not, _&&_, _||_, true≢false}
+use mathlib.Core.Bool.{Bool, true, false, cond, not, _&&_, _||_}
 use mathlib.Core.Logic.{_⊎_, inl, inr, ⊎-elim}
-use mathlib.Core.List.{List}
-use Prim.Native.Nat.{ℕ, zero, suc, _+_, _*_, _-_, _/_, _%_, _<_, _≤_}
+use Prim.Native.Nat.{ℕ, zero, suc, _+_, _*_, _-_, _%_, _<_, _≤_}
 use native.Mathlib.Decide.{ℕ-discrete}
 use native.Mathlib.Omega.{arith}
 use lib.Dec.{ltb, leb, eqb}
@@ -15,8 +14,8 @@ use Rattle.words.specs.Choose.{both, either, cond-split}
 use Rattle.rules.specs.Limits.{mostRegions, mostRegionParams, mostEntries, mostTerms, sizeLimit, blockBytes, mostBlocks}
 use Rattle.rules.specs.File.{records, blocks, lengthRight, recordOf, regionsOf, isTerm, isInstruction, kindInteger, kindPointer, kindArray, kindStruct, kindName, kindFields, kindFunction, kindFiller, kindRegions, kindRegisters, kindCall, kindArguments, within}
 use Rattle.rules.specs.Walk.{to, toCode, toRegisters, headed, opened, toTerm, named, done, called, toFunction, toName, step, next, Scan, nextScan, scan, whole, namesEnd}
-use Rattle.rules.specs.Records.{four, integerFits, pointerFits, arrayFits, structFits, termFits, nameFits, functionFits, fitsIn, fits, recordTest}
-use Rattle.rules.specs.Module.{Function, regions}
+use Rattle.rules.specs.Records.{four, integerFits, pointerFits, arrayFits, structFits, termFits, nameFits, functionFits, fitsIn, fits}
+use Rattle.rules.specs.Module.{regions}
 use Rattle.rules.specs.Decode.{moduleOf, startOf}
 use Rattle.rules.specs.Verdict.{functionTest}
 use Rattle.rules.specs.declared.Record.{Record}
@@ -28,8 +27,8 @@ use Rattle.typing.specs.Tests.{left, right}
 use Rattle.typing.specs.Accepted.{module-tables, module-ranges}
 use Rattle.typing.specs.Refused.{function-test}
 use Rattle.typing.specs.Facts.{uses-more, scope-all}
-use Rattle.runs.specs.Table.{InRange, Ranged}
-use Rattle.walk.specs.Tables.{startsOf, tablesOf, tables-walk, tables-starts}
+use Rattle.runs.specs.Table.{Ranged}
+use Rattle.walk.specs.Tables.{tablesOf, tables-walk, tables-starts}
 use Rattle.walk.specs.declared.tables.Tables.{Tables}
 use Rattle.functions.specs.Functions.{Known, functionAt, function-at}
 use Rattle.instructions.specs.Plain.{Tight}
@@ -66,41 +65,77 @@ module _ (w : Walk) (x : Record) (r : ℕ) where
   wanted : (k : ℕ) (v : Walk) → v .terms ≡ w .terms → cond (eqb (x .kind) k) v (to w Broken 0) .terms ≡ w .terms
   wanted k v h = cond-split (λ (v : Walk). v .terms ≡ w .terms) (eqb (x .kind) k) v (to w Broken 0) (λ e. h) (λ e. refl)
 
--- a struct term has few arguments
-few-arguments : (t w : Walk) (x : Record) → termFits t w x ≡ true → x .b ≤ 8
+-- ---- what refusal 4 asks of a term's record
+
+-- the four kinds of term
+pub data TermCase (t w : Walk) (x : Record) : Type 0 where
+  of-integer : x .kind ≡ kindInteger → integerFits x ≡ true → TermCase t w x
+  of-pointer : x .kind ≡ kindPointer → pointerFits w x ≡ true → TermCase t w x
+  of-array : x .kind ≡ kindArray → arrayFits w x ≡ true → TermCase t w x
+  of-struct : x .kind ≡ kindStruct → structFits t x ≡ true → TermCase t w x
+
+pub term-case : (t w : Walk) (x : Record) → termFits t w x ≡ true → TermCase t w x
 unfolding termFits
-few-arguments t w x e =
+term-case t w x e =
+    let integer : Bool = eqb (x .kind) kindInteger && integerFits x in
+    let pointer : Bool = eqb (x .kind) kindPointer && pointerFits w x in
+    let array : Bool = eqb (x .kind) kindArray && arrayFits w x in
+    let name : Bool = eqb (x .kind) kindStruct && structFits t x in
     ⊎-elim
     (λ h. ⊎-elim
-    (λ i.
-    let j = both (eqb (x .a) 1 || (eqb (x .a) 2 || eqb (x .a) 4)) ((eqb (x .b) 0 && eqb (x .c) 0) && eqb (x .d) 0) (both (eqb (x .kind) kindInteger) (integerFits x) i .1) in
-    let k = both (eqb (x .b) 0) (eqb (x .c) 0) (both (eqb (x .b) 0 && eqb (x .c) 0) (eqb (x .d) 0) (j .1) .0) in
-    omega (arith, eqb-true (x .b) 0 (k .0)))
-    (λ i.
-    let j = both (ltb (x .a) (w .terms)) (ltb (x .b) mostRegions) (both (ltb (x .a) (w .terms) && ltb (x .b) mostRegions) (eqb (x .c) 0 && eqb (x .d) 0) (both (eqb (x .kind) kindPointer) (pointerFits w x) i .1) .0) in
-    omega (arith, ltb-true (x .b) mostRegions (j .1)))
-    (either (eqb (x .kind) kindInteger && integerFits x) (eqb (x .kind) kindPointer && pointerFits w x) h))
+    (λ i. let p = both (eqb (x .kind) kindInteger) (integerFits x) i in of-integer (eqb-true (x .kind) kindInteger (p .0)) (p .1))
+    (λ i. let p = both (eqb (x .kind) kindPointer) (pointerFits w x) i in of-pointer (eqb-true (x .kind) kindPointer (p .0)) (p .1))
+    (either integer pointer h))
     (λ h. ⊎-elim
-    (λ i.
-    let j = both (ltb (x .a) (w .terms) && within (x .d) 1 sizeLimit) (eqb (x .b) 0 && eqb (x .c) 0) (both (eqb (x .kind) kindArray) (arrayFits w x) i .1) in
-    omega (arith, eqb-true (x .b) 0 (both (eqb (x .b) 0) (eqb (x .c) 0) (j .1) .0)))
-    (λ i.
-    omega (arith, leb-true (x .b) mostRegionParams (right (ltb (x .a) (t .names) || not (namesEnd t)) (leb (x .b) mostRegionParams) (left ((ltb (x .a) (t .names) || not (namesEnd t)) && leb (x .b) mostRegionParams) (eqb (x .c) 0 && four x (x .b) mostRegions) (both (eqb (x .kind) kindStruct) (structFits t x) i .1)))))
-    (either (eqb (x .kind) kindArray && arrayFits w x) (eqb (x .kind) kindStruct && structFits t x) h))
-    (either ((eqb (x .kind) kindInteger && integerFits x) || (eqb (x .kind) kindPointer && pointerFits w x)) ((eqb (x .kind) kindArray && arrayFits w x) || (eqb (x .kind) kindStruct && structFits t x))
-    (right (ltb (w .terms) mostTerms) (((eqb (x .kind) kindInteger && integerFits x) || (eqb (x .kind) kindPointer && pointerFits w x)) || ((eqb (x .kind) kindArray && arrayFits w x) || (eqb (x .kind) kindStruct && structFits t x))) e))
+    (λ i. let p = both (eqb (x .kind) kindArray) (arrayFits w x) i in of-array (eqb-true (x .kind) kindArray (p .0)) (p .1))
+    (λ i. let p = both (eqb (x .kind) kindStruct) (structFits t x) i in of-struct (eqb-true (x .kind) kindStruct (p .0)) (p .1))
+    (either array name h))
+    (either (integer || pointer) (array || name) (right (ltb (w .terms) mostTerms) ((integer || pointer) || (array || name)) e))
 
--- one record more: the terms are as many, or this was one
-More : ℕ → ℕ → ℕ → Record → Type 0
-More r before after x = (after ≡ before) ⊎ ((after ≡ before + 1) × ((r ≡ before) × (x .b ≤ 8)))
+module _ (t w : Walk) (x : Record) where
+  -- what is unused is zero
+  pub integer-plain : integerFits x ≡ true → x .b ≡ 0
+  integer-plain i =
+      let j = right (eqb (x .a) 1 || (eqb (x .a) 2 || eqb (x .a) 4)) ((eqb (x .b) 0 && eqb (x .c) 0) && eqb (x .d) 0) i in
+      eqb-true (x .b) 0 (left (eqb (x .b) 0) (eqb (x .c) 0) (left (eqb (x .b) 0 && eqb (x .c) 0) (eqb (x .d) 0) j))
 
-by-phase : (f : Bytes) (r : ℕ) (w : Walk) (t : Scan) (x : Record) (p : Phase) → Place f w r p → fitsIn p f t w x ≡ true → More r (w .terms) (step p w x r .terms) x
+  pub array-plain : arrayFits w x ≡ true → x .b ≡ 0
+  array-plain i = eqb-true (x .b) 0 (left (eqb (x .b) 0) (eqb (x .c) 0) (right (ltb (x .a) (w .terms) && within (x .d) 1 sizeLimit) (eqb (x .b) 0 && eqb (x .c) 0) i))
+
+  -- "region variable b (0-6)", and d is unused
+  pub pointer-region : pointerFits w x ≡ true → (x .b < mostRegions) × (x .d ≡ 0)
+  pointer-region i =
+      let j = both (ltb (x .a) (w .terms) && ltb (x .b) mostRegions) (eqb (x .c) 0 && eqb (x .d) 0) i in
+      (ltb-true (x .b) mostRegions (right (ltb (x .a) (w .terms)) (ltb (x .b) mostRegions) (j .0)), eqb-true (x .d) 0 (right (eqb (x .c) 0) (eqb (x .d) 0) (j .1)))
+
+  -- "b region arguments (0-4), one per byte of d, each 0-6"
+  pub struct-regions : structFits t x ≡ true → (x .b ≤ mostRegionParams) × (four x (x .b) mostRegions ≡ true)
+  struct-regions i =
+      let j = both ((ltb (x .a) (t .names) || not (namesEnd t)) && leb (x .b) mostRegionParams) (eqb (x .c) 0 && four x (x .b) mostRegions) i in
+      (leb-true (x .b) mostRegionParams (right (ltb (x .a) (t .names) || not (namesEnd t)) (leb (x .b) mostRegionParams) (j .0)), right (eqb (x .c) 0) (four x (x .b) mostRegions) (j .1))
+
+  few-arguments : TermCase t w x → x .b ≤ 8
+  few-arguments (of-integer k i) = omega (arith, integer-plain i)
+  few-arguments (of-pointer k i) = omega (arith, pointer-region i .0)
+  few-arguments (of-array k i) = omega (arith, array-plain i)
+  few-arguments (of-struct k i) = omega (arith, struct-regions i .0)
+
+-- record x is a term's that fits, before whichever record the walk stood
+pub record TermFits (f : Bytes) (x : Record) : Type 0 where
+  pub before : Walk
+  pub fits : termFits (whole f .walk) before x ≡ true
+
+-- one record more: the terms are as many, or this was one, and fits
+More : Type 0 → ℕ → ℕ → ℕ → Type 0
+More fit r before after = (after ≡ before) ⊎ ((after ≡ before + 1) × ((r ≡ before) × fit))
+
+by-phase : (f : Bytes) (r : ℕ) (w : Walk) (t : Scan) (x : Record) (p : Phase) → Place f w r p → fitsIn p f t w x ≡ true → More (termFits (t .walk) w x ≡ true) r (w .terms) (step p w x r .terms)
 unfolding step fitsIn More
 by-phase f r w t x Terms (in-terms e n g) q = go (isTerm (x .kind)) q
   where
     go : (b : Bool) → cond b (termFits (t .walk) w x) (cond (eqb (x .kind) kindName) (nameFits w x) (functionFits w x)) ≡ true
-        → (cond b (toTerm w) (toName w x r) .terms ≡ w .terms) ⊎ ((cond b (toTerm w) (toName w x r) .terms ≡ w .terms + 1) × ((r ≡ w .terms) × (x .b ≤ 8)))
-    go true q = inr (refl, (e, few-arguments (t .walk) w x q))
+        → (cond b (toTerm w) (toName w x r) .terms ≡ w .terms) ⊎ ((cond b (toTerm w) (toName w x r) .terms ≡ w .terms + 1) × ((r ≡ w .terms) × (termFits (t .walk) w x ≡ true)))
+    go true q = inr (refl, (e, q))
     go false q = inl (same-name w x r)
 by-phase f r w t x Names l q = inl (same-name w x r)
 by-phase f r w t x Fields l q = inl (wanted w x r kindFields (to w Names 0) refl)
@@ -117,33 +152,44 @@ by-phase f r w t x Filler l q = inl refl
 by-phase f r w t x Broken l q = inl refl
 
 module _ (f : Bytes) (ok : Fits f) where
-  one-more : (r : ℕ) → r < records f → More r (scan f r .walk .terms) (scan f (suc r) .walk .terms) (recordOf f r)
+  one-more : (r : ℕ) → r < records f → More (termFits (whole f .walk) (scan f r .walk) (recordOf f r) ≡ true) r (scan f r .walk .terms) (scan f (suc r) .walk .terms)
   unfolding scan nextScan next fits
   one-more r l = by-phase f r (scan f r .walk) (whole f) (recordOf f r) (scan f r .walk .phase) (good-scan f ok r (omega arith) .place) (sym (test-at f r l) ∙ ok r (omega arith))
 
-  terms-few : (r : ℕ) → r ≤ records f → (i : ℕ) → i < scan f r .walk .terms → recordOf f i .b ≤ 8
+  scan-fits : (r : ℕ) → r ≤ records f → (i : ℕ) → i < scan f r .walk .terms → TermFits f (recordOf f i)
   unfolding scan More
-  terms-few zero h i l = absurd (omega arith)
-  terms-few (suc r) h i l = go (one-more r h) (terms-few r (omega arith) i)
+  scan-fits zero h i l = absurd (omega arith)
+  scan-fits (suc r) h i l = go (one-more r h) (scan-fits r (omega arith) i)
     where
-      go : (scan f (suc r) .walk .terms ≡ scan f r .walk .terms) ⊎ ((scan f (suc r) .walk .terms ≡ scan f r .walk .terms + 1) × ((r ≡ scan f r .walk .terms) × (recordOf f r .b ≤ 8)))
-          → (i < scan f r .walk .terms → recordOf f i .b ≤ 8) → recordOf f i .b ≤ 8
+      go : (scan f (suc r) .walk .terms ≡ scan f r .walk .terms)
+          ⊎ ((scan f (suc r) .walk .terms ≡ scan f r .walk .terms + 1) × ((r ≡ scan f r .walk .terms) × (termFits (whole f .walk) (scan f r .walk) (recordOf f r) ≡ true)))
+          → (i < scan f r .walk .terms → TermFits f (recordOf f i)) → TermFits f (recordOf f i)
       go (inl e) k = k (subst (λ (n : ℕ). i < n) e l)
-      go (inr e) k = elim (ℕ-discrete i r) [ yes q ↦ subst (λ (j : ℕ). recordOf f j .b ≤ 8) (sym q) (e .1 .1) | no q ↦ k (let m : i < scan f r .walk .terms + 1 = subst (λ (n : ℕ). i < n) (e .0) l in let z = e .1 .0 in omega arith) ]
+      go (inr e) k = elim (ℕ-discrete i r) [
+        | yes q ↦ subst (λ (j : ℕ). TermFits f (recordOf f j)) (sym q) (record { before = scan f r .walk; fits = e .1 .1 })
+        | no q ↦ k (let m : i < scan f r .walk .terms + 1 = subst (λ (n : ℕ). i < n) (e .0) l in let z = e .1 .0 in omega arith)
+      ]
 
   terms-are : moduleOf f .terms ≡ whole f .walk .terms
   unfolding moduleOf
   terms-are = refl
+
+  -- each term's record fits
+  pub terms-fit : (t : ℕ) → t < moduleOf f .terms → TermFits f (recordOf f t)
+  unfolding whole
+  terms-fit t l = scan-fits (records f) (omega arith) t (omega (arith, terms-are))
 
   wide-enough : (a : ℕ) → (eqb a 1 || (eqb a 2 || eqb a 4)) ≡ true → 0 < a
   wide-enough a e = ⊎-elim (λ h. omega (arith, eqb-true a 1 h)) (λ h. ⊎-elim (λ k. omega (arith, eqb-true a 2 k)) (λ k. omega (arith, eqb-true a 4 k)) (either (eqb a 2) (eqb a 4) h)) (either (eqb a 1) (eqb a 2 || eqb a 4) e)
 
   -- the terms are in range
   pub ranged : (n : ℕ) → n ≡ moduleOf f .terms → Ranged f n
-  unfolding whole
   ranged n e t l =
-      let h : t < whole f .walk .terms = omega (arith, terms-are) in
-      (λ k. wide-enough (recordOf f t .a) (good f ok .termRecords t h .width (eq-eqb (recordOf f t .kind) kindInteger k)), terms-few (records f) (omega arith) t h)
+      let fit = terms-fit t (omega arith) in
+      let h : t < whole f .walk .terms = omega (arith, terms-are) in (
+        λ k. wide-enough (recordOf f t .a) (good f ok .termRecords t h .width (eq-eqb (recordOf f t .kind) kindInteger k)),
+        few-arguments (whole f .walk) (fit .before) (recordOf f t) (term-case (whole f .walk) (fit .before) (recordOf f t) (fit .fits)),
+      )
 
   -- what the tables of the file give
   pub known : lengthRight f ≡ true → (t : Tables) → t ≡ tablesOf f → Known f (t .walk .terms) (t .walk .names) (t .walk .functions) (t .starts)

@@ -42,7 +42,7 @@ module _ (m : Module) (ok : ModuleOk m) (v : View) (k : ℕ) (g : Good m v (suc 
   onward h = record { frame = g .frames .few; next = next-small k (omega arith) h }
 
   -- a live region's number
-  live-small : (r : ℕ) → Live m (v .fn) (v .map) (suc k) (suc r) → r < liveRegions
+  pub live-small : (r : ℕ) → Live m (v .fn) (v .map) (suc k) (suc r) → r < liveRegions
   live-small r l = rw (← suc-inj (l .local .is)) (g .frames .numbered (l .frame) (l .below) (l .local .index) (l .local .below))
 
   module _ (h : ℕ) (μ ρ : ℕ → ℕ) (f : SafePush m v k h μ ρ) where

@@ -49,7 +49,7 @@ stuck-none m v k (finish x) f = refl
 stuck-none m v k (stop i) f = refl
 stuck-none m v k stuck f = absurd f
 
-status-going : (v : View) → StatusOk v → v .status ≡ 0 → (0 < v .frames) × (v .result ≡ 0)
+pub status-going : (v : View) → StatusOk v → v .status ≡ 0 → (0 < v .frames) × (v .result ≡ 0)
 status-going v (running a b c) e = (b, c)
 status-going v (stopped a b c) e = (b, c)
 status-going v (ended a b) e = absurd (omega arith)

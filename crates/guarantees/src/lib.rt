@@ -1,0 +1,1 @@
+// What the host may count on, from the verdict and the state test: see specs/.
