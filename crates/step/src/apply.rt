@@ -50,7 +50,7 @@ pub fn apply(
     ensures { λ r. ⌜ Applied (now (functions .entry)) (now (given .entry)) (now (own .entry)) k u p w x e (now (s .entry)) (now (o .entry)) r (now (s .exit)) (now (o .exit)) ⌝ }
 {
     match e {
-        Effect::Set(a, y) => {
+        Effect::Assign(a, y) => {
             put_register(s, k, a, y);
             Next::On(k, u, p + 1)
         }

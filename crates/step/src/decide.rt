@@ -9,15 +9,19 @@ ghost use Rattle.words.specs.Bytes.{Bytes, byteAt};
 ghost use Rattle.words.specs.Widths.{IsWidth};
 ghost use Rattle.rules.specs.Limits.{pageBytes, firstPage, pastPage, mostFrames, mostInstructions, outputBytes, stateBytes};
 ghost use Rattle.rules.specs.Module.{Module};
+ghost use Rattle.rules.specs.Decode.{moduleOf};
 ghost use Rattle.rules.specs.State.{view};
 ghost use Rattle.rules.specs.Step.{assign, fetch, save, freePlace, takePlace, goTo, emit, stop, notZero, computed};
 ghost use Rattle.rules.specs.Step.{allocate as allocated, Effect as Effected};
 ghost use Rattle.arithmetic.specs.Meaning.{computedOf};
+ghost use Rattle.runs.specs.Table.{Table};
+ghost use Rattle.runs.specs.Maps.{Narrow};
 ghost use Rattle.prepared.specs.Program.{Program, program, kind};
 ghost use Rattle.prepared.specs.Plain.{plainArithmetic, plainMemory, plainControl, plainPush, plainReturn, plainOf};
 ghost use Rattle.prepared.specs.Ready.{Ready, Caller};
 ghost use Rattle.step.specs.Meaning.{meant, Means};
 use crate::Effect;
+use crate::check::check;
 use crate::parts::immediate_of;
 use crate::parts::region_variable;
 use crate::parts::register_a;
@@ -49,19 +53,28 @@ fn put_number(a: u32, n: Number) -> Effect
     ensures { λ r. ⌜ Means r (computed a (computedOf n)) ⌝ }
 {
     match n {
-        Number::Is(x) => Effect::Set(a, x),
+        Number::Is(x) => Effect::Assign(a, x),
         Number::Stop(i) => Effect::Stop(i),
     }
 }
 
-fn arithmetic(w: u64, x: u64, s: &[u8], k: u32) -> Effect
-    requires { ⌜ Ready (now s) k w x × (kind w < 22) ⌝ }
-    ensures { λ r. ⌜ ((m : Module) → Means r (plainArithmetic m (view (now (s .entry))) k (kind w) w x)) ⌝ }
+fn arithmetic(
+    w: u64,
+    x: u64,
+    file: &[u8],
+    terms: usize,
+    structs: usize,
+    extents: &[u64],
+    s: &[u8],
+    k: u32,
+) -> Effect
+    requires { ⌜ Ready (now s) k w x × Table (now file) terms structs (now extents) × Narrow (now file) × (kind w < 23) ⌝ }
+    ensures { λ r. ⌜ Means r (plainArithmetic (moduleOf (now (file .entry))) (view (now (s .entry))) k (kind w) w x) ⌝ }
 {
     let a = register_a(w);
     match w % 256 {
-        16 => Effect::Set(a, immediate_of(w)),
-        17 => Effect::Set(a, register(s, k, register_b(w))),
+        16 => Effect::Assign(a, immediate_of(w)),
+        17 => Effect::Assign(a, register(s, k, register_b(w))),
         18 => put_number(
             a,
             compute(
@@ -71,12 +84,13 @@ fn arithmetic(w: u64, x: u64, s: &[u8], k: u32) -> Effect
                 register(s, k, register_c(w)),
             ),
         ),
-        19 => Effect::Set(a, cut_to(register(s, k, register_b(w)) as u64, width_a(w))),
-        20 => Effect::Set(
+        19 => Effect::Assign(a, cut_to(register(s, k, register_b(w)) as u64, width_a(w))),
+        20 => Effect::Assign(
             a,
             extend(width_a(w), width_b(w), register(s, k, register_b(w))),
         ),
-        _ => Effect::Set(a, register(s, k, register_b(w))),
+        21 => Effect::Assign(a, register(s, k, register_b(w))),
+        _ => check(w, x, file, terms, structs, extents, s, k),
     }
 }
 
@@ -89,7 +103,7 @@ fn field(a: u32, base: u32, distance: u32) -> Effect
     if base == 0 {
         return Effect::Stop(31);
     }
-    Effect::Set(a, base + distance)
+    Effect::Assign(a, base + distance)
 }
 
 fn index(a: u32, b: u32, c: u32, size: u32, count: u64) -> Effect
@@ -99,7 +113,7 @@ fn index(a: u32, b: u32, c: u32, size: u32, count: u64) -> Effect
     if b == 0 {
         Effect::Stop(31)
     } else if (c as u64) < count {
-        Effect::Set(a, b + c * size)
+        Effect::Assign(a, b + c * size)
     } else {
         Effect::Stop(33)
     }
@@ -194,7 +208,7 @@ fn input(a: u32, form: &[u8], i: u32) -> Effect
 {
     let at = i as usize;
     if at < form.len() {
-        Effect::Set(a, wide(form[at]))
+        Effect::Assign(a, wide(form[at]))
     } else {
         Effect::Stop(38)
     }
@@ -273,10 +287,14 @@ fn control(
 
 // ---- all kinds
 
-// What the instruction with the words w and x does at p in top frame k. One match on the kind.
+// What the instruction with the words w and x does at p in top frame k. One match on the kind. Only kind 22 reads the file and its table.
 pub fn effect(
     w: u64,
     x: u64,
+    file: &[u8],
+    terms: usize,
+    structs: usize,
+    extents: &[u64],
     code: &[u64],
     functions: &[u64; 256],
     form: &[u8],
@@ -284,12 +302,12 @@ pub fn effect(
     k: u32,
     p: u32,
 ) -> Effect
-    requires { ⌜ Ready (now s) k w x × (p < mostInstructions) × (kind w ≢ 22) × (kind w ≡ 34 → Caller (program (now code) (now functions)) (now s) k) ⌝ }
-    ensures { λ r. ⌜ ((m : Module) → meant (plainPush m (view (now (s .entry))) k (program (now (code .entry)) (now (functions .entry))) (now (form .entry)) w x) r
-        ≡ plainOf m (view (now (s .entry))) k (program (now (code .entry)) (now (functions .entry))) (now (form .entry)) p w x) × (r ≡ Effect.Push → kind w ≡ 33) ⌝ }
+    requires { ⌜ Ready (now s) k w x × (p < mostInstructions) × (kind w ≡ 34 → Caller (program (now code) (now functions)) (now s) k) × Table (now file) terms structs (now extents) × Narrow (now file) ⌝ }
+    ensures { λ r. ⌜ (meant (plainPush (moduleOf (now (file .entry))) (view (now (s .entry))) k (program (now (code .entry)) (now (functions .entry))) (now (form .entry)) w x) r
+        ≡ plainOf (moduleOf (now (file .entry))) (view (now (s .entry))) k (program (now (code .entry)) (now (functions .entry))) (now (form .entry)) p w x) × (r ≡ Effect.Push → kind w ≡ 33) ⌝ }
 {
     match w % 256 {
-        16..=22 => arithmetic(w, x, s, k),
+        16..=22 => arithmetic(w, x, file, terms, structs, extents, s, k),
         23..=28 => memory(w, x, s, k),
         _ => control(w, x, code, functions, form, s, k, p),
     }

@@ -5,7 +5,7 @@ use lib.ListN.{length}
 use borrow.Author.Needs.{needs}
 use Rattle.words.specs.ByteLaws.{length-splice}
 use Rattle.state.specs.Closing.{length-written}
-use Rattle.step.specs.Applied.{fits-as, enter-params, enter-operands, set-done, fetch-done, save-done, take-done, grant-done, free-done, go-done, emit-done, push-done, pop-done, finish-done, stop-done}
+use Rattle.step.specs.Applied.{fits-as, enter-params, enter-operands, assign-done, fetch-done, save-done, take-done, grant-done, free-done, go-done, emit-done, push-done, pop-done, finish-done, stop-done}
 use Rattle.step.proofs.apply.apply.Statement.{statement}
 use Rattle.step.proofs.apply.apply.Tie as tie
 
@@ -196,7 +196,7 @@ same-length : tie.Need-same-length
 same-length c = search needs
 
 returns : tie.Need-returns
-returns c = set-done _ _ _ _ _ _ _ _ _ _ _ _ _ _ (c .before .before .before .before .before .e .given .1) (c .before .before .put-register .ensures)
+returns c = assign-done _ _ _ _ _ _ _ _ _ _ _ _ _ _ (c .before .before .before .before .before .e .given .1) (c .before .before .put-register .ensures)
 
 same-length-2 : tie.Need-same-length-2
 same-length-2 c = search needs
