@@ -149,7 +149,7 @@ fn byte_or(to: &[u8], j: usize) -> u8
 }
 
 // A lent substitution of at most eight regions, held.
-fn held(to: &[u8]) -> [u8; 8]
+pub fn held(to: &[u8]) -> [u8; 8]
     requires { ⌜ length (now to) ≤ 8 ⌝ }
     ensures { λ r. ⌜ Agree r (now (to .entry)) ⌝ }
 {
@@ -178,7 +178,7 @@ fn term_prim(
     tab: &[u64],
 ) -> Primitive
     requires { do let L = termLayout (now f) k p in ⌜ (p ≤ n) × (off + L .size ≤ 256) × (i < count L) × (Keeps to) × (Known (now f) n k (now tab)) × (i < 256) ⌝ }
-    ensures { λ r. ⌜ Found (now (f .entry)) r to off (nth (termLayout (now (f .entry)) k p) i) ⌝ }
+    ensures { λ r. ⌜ (Found (now (f .entry)) r to off (nth (termLayout (now (f .entry)) k p) i)) × (r .place ≤ n) × (r .off ≤ 256) ⌝ }
 {
     match terms::head_of(f, p) {
         Head::Arr(_, a) => {
@@ -214,7 +214,7 @@ fn struct_prim(
     tab: &[u64],
 ) -> Primitive
     requires { do let L = structLayout (now f) number in ⌜ (number < 256) × (off + L .size ≤ 256) × (i < count L) × (Keeps to) × (Known (now f) n number (now tab)) × (i < 256) ⌝ }
-    ensures { λ r. ⌜ Found (now (f .entry)) r to off (nth (structLayout (now (f .entry)) number) i) ⌝ }
+    ensures { λ r. ⌜ (Found (now (f .entry)) r to off (nth (structLayout (now (f .entry)) number) i)) × (r .place ≤ n) × (r .off ≤ 256) ⌝ }
 {
     let first = n + 2 * number;
     let x = terms::record_at(f, first);
@@ -238,7 +238,7 @@ fn struct_prim(
 }
 
 // Primitive i of the term at place p.
-fn place_prim(
+pub fn place_prim(
     f: &[u8],
     n: usize,
     k: usize,
@@ -248,7 +248,7 @@ fn place_prim(
     tab: &[u64],
 ) -> Primitive
     requires { ⌜ (Table (now f) n k (now tab)) × (p ≤ n) × (i < count (termLayout (now f) k p)) × (Keeps to) ⌝ }
-    ensures { λ r. ⌜ Found (now (f .entry)) r to 0 (nth (termLayout (now (f .entry)) k p) i) ⌝ }
+    ensures { λ r. ⌜ (Found (now (f .entry)) r to 0 (nth (termLayout (now (f .entry)) k p) i)) × (r .place ≤ n) × (r .off ≤ 256) ⌝ }
 {
     let c = core_in(tab, p);
     term_prim(f, n, k, c, to, 0, i, tab)

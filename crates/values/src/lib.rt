@@ -1,8 +1,11 @@
-// The clauses of the state test that need types, on bytes that nobody has tested: each register is a value of its type. The file's
-// tables are handed over; nothing is asked of the state.
+// The clauses of the state test that need types, on bytes that nobody has tested: each register is a value of its type (here), each
+// primitive in each owned page is one (module pages); and the whole test. The file's tables are handed over; nothing is asked of
+// the state.
 ghost use mathlib.Core.Path.{_≡_};
 ghost use Prim.Native.Nat.{ℕ, _<_, _^_};
+ghost use Rattle.words.specs.Decide.{does};
 ghost use Rattle.rules.specs.Decode.{moduleOf};
+ghost use Rattle.rules.specs.StateTest.{decPasses};
 ghost use Rattle.rules.specs.State.{frameMap};
 ghost use Rattle.rules.specs.Heap.{close, Stands};
 ghost use Rattle.runs.specs.Table.{Table};
@@ -13,8 +16,11 @@ ghost use Rattle.values.specs.Value.{typingOf};
 ghost use Rattle.values.specs.Registers.{ValueOk, RegisterOk, RegistersOk, AllRegisters, registerTerm};
 
 pub mod memory;
+pub mod pages;
 
+use objects::ends_ok;
 use objects::home_of;
+use shape::shape_ok;
 use stack::regions::head;
 use state::Machine;
 use state::RegionVariable;
@@ -250,4 +256,31 @@ pub fn registers_ok(
 {
     let n = words::wide(state::total::frames(s));
     all_registers(f, starts, functions, terms, structs, tab, s, n)
+}
+
+// ---- the whole test
+
+// "the state test": the cheap parts first, and none after one that fails.
+pub fn passes(
+    f: &[u8],
+    starts: &[usize; CALLEES],
+    functions: usize,
+    terms: usize,
+    structs: usize,
+    tab: &[u64],
+    s: &[u8],
+) -> bool
+    requires { ⌜ Known (now f) (now starts) functions ⌝ ∗ ⌜ Table (now f) terms structs (now tab) ⌝ ∗ ⌜ Narrow (now f) ⌝ }
+    ensures { λ b. ⌜ b ≡ does (decPasses (moduleOf (now (f .entry))) (now (s .entry))) ⌝ }
+{
+    if !shape_ok(f, starts, functions, s) {
+        return false;
+    }
+    if !ends_ok(f, starts, functions, terms, structs, tab, s) {
+        return false;
+    }
+    if !registers_ok(f, starts, functions, terms, structs, tab, s) {
+        return false;
+    }
+    crate::pages::primitives_ok(f, starts, functions, terms, structs, tab, s)
 }

@@ -194,7 +194,7 @@ struct-prim-term-prim-requires t c κs = let l = fld-core t c .low in
     (omega arith, (omega arith, core-in-field (fld-f t (c .before .before .before)) (fld-n t (c .before .before .before)) (fld-N t (c .before .before .before)) (c .before .before .before .before .before .before .before .before .before .before .before .before .pre .1 .4 .terms) (c .before .before .before .before .before .before .before .before .before .before .before .before .args .off) (c .before .before .before .before .before .before .before .before .before .before .before .before .args .i) (c .before .before .before .before .before .before .before .before .before .before .before .before .pre .1 .1) (c .before .before .before .before .before .before .before .before .before .before .before .before .pre .1 .2) (fld-j t (c .before .before .before)) (c .before .before .before .before .before .before .before .loop .size) (c .before .before .before .before .before .before .before .loop .count) (fld-less t (c .before .before .before)) (c .before .before .before .before .before .before .before .loop .inv .1) (c .before .before .before .before .before .before .before .loop .inv .2) (c .core-in .result) (fld-core t c) (c .before .before .before .before .before .before .before .loop .inv .3) (fld-here t c), field-inside (fld-f t (c .before .before .before)) (fld-n t (c .before .before .before)) (fld-N t (c .before .before .before)) (c .before .before .before .before .before .before .before .before .before .before .before .before .pre .1 .4 .terms) (c .before .before .before .before .before .before .before .before .before .before .before .before .args .off) (c .before .before .before .before .before .before .before .before .before .before .before .before .args .i) (c .before .before .before .before .before .before .before .before .before .before .before .before .pre .1 .1) (c .before .before .before .before .before .before .before .before .before .before .before .before .pre .1 .2) (fld-j t (c .before .before .before)) (c .before .before .before .before .before .before .before .loop .size) (c .before .before .before .before .before .before .before .loop .count) (fld-less t (c .before .before .before)) (c .before .before .before .before .before .before .before .loop .inv .1) (c .before .before .before .before .before .before .before .loop .inv .2) (c .core-in .result) (fld-core t c) (c .before .before .before .before .before .before .before .loop .inv .3) (fld-here t c), c .before .before .before .before .before .before .before .before .before .before .before .before .pre .1 .3, c .before .before .before .before .before .before .before .before .before .before .before .before .pre .1 .4, omega (arith, c .before .before .before .before .before .before .before .before .before .before .before .before .pre .1 .5)))
 
 struct-prim-returns : (t : ℕ) → struct-prim-lts.Need-returns (struct-prim-uses t) (struct-prim-at t) struct-prim.Post struct-prim-Inv-loop struct-prim-μ-loop
-struct-prim-returns t c = found-field (fld-f t (c .before .before .before .before)) (fld-n t (c .before .before .before .before)) (fld-N t (c .before .before .before .before)) (c .before .before .before .before .before .before .before .before .before .before .before .before .before .pre .1 .4 .terms) (c .before .before .before .before .before .before .before .before .before .before .before .before .before .args .off) (c .before .before .before .before .before .before .before .before .before .before .before .before .before .args .i) (c .before .before .before .before .before .before .before .before .before .before .before .before .before .pre .1 .1) (c .before .before .before .before .before .before .before .before .before .before .before .before .before .pre .1 .2) (fld-j t (c .before .before .before .before)) (c .before .before .before .before .before .before .before .before .loop .size) (c .before .before .before .before .before .before .before .before .loop .count) (fld-less t (c .before .before .before .before)) (c .before .before .before .before .before .before .before .before .loop .inv .1) (c .before .before .before .before .before .before .before .before .loop .inv .2) (c .before .core-in .result) (fld-core t (c .before)) (c .before .before .before .before .before .before .before .before .loop .inv .3) (fld-here t (c .before)) (c .term-prim .result) (c .before .before .before .before .before .before .before .before .before .before .before .before .before .args .to) (c .term-prim .ensures)
+struct-prim-returns t c = (found-field (fld-f t (c .before .before .before .before)) (fld-n t (c .before .before .before .before)) (fld-N t (c .before .before .before .before)) (c .before .before .before .before .before .before .before .before .before .before .before .before .before .pre .1 .4 .terms) (c .before .before .before .before .before .before .before .before .before .before .before .before .before .args .off) (c .before .before .before .before .before .before .before .before .before .before .before .before .before .args .i) (c .before .before .before .before .before .before .before .before .before .before .before .before .before .pre .1 .1) (c .before .before .before .before .before .before .before .before .before .before .before .before .before .pre .1 .2) (fld-j t (c .before .before .before .before)) (c .before .before .before .before .before .before .before .before .loop .size) (c .before .before .before .before .before .before .before .before .loop .count) (fld-less t (c .before .before .before .before)) (c .before .before .before .before .before .before .before .before .loop .inv .1) (c .before .before .before .before .before .before .before .before .loop .inv .2) (c .before .core-in .result) (fld-core t (c .before)) (c .before .before .before .before .before .before .before .before .loop .inv .3) (fld-here t (c .before)) (c .term-prim .result) (c .before .before .before .before .before .before .before .before .before .before .before .before .before .args .to) (c .term-prim .ensures .0), c .term-prim .ensures .1, c .term-prim .ensures .2)
 
 struct-prim-add-size : (t : ℕ) → struct-prim-lts.Need-add-size (struct-prim-uses t) (struct-prim-at t) struct-prim.Post struct-prim-Inv-loop struct-prim-μ-loop
 struct-prim-add-size t c = omega (arith, fld-sum t (c .before .before .before), fld-size t (c .before .before .before))
@@ -239,19 +239,19 @@ term-prim-struct-prim-requires t c κs = let s = struct-size (now (c .before .be
     (omega arith, (w, omega (arith, c .before .before .before .before .before .before .before .before .before .pre .1 .1), omega (arith, c .before .before .before .before .before .before .before .before .before .pre .1 .2), keeps-args (c .before .before .before .before .before .before .before .before .before .args .t5) (c .arguments .result) _ _ (subst Few (sym (c .before .before .before .before .before .before .head-of .ensures .0) ∙ c .before .before .before .before .number .given .1) (c .before .before .before .before .before .before .before .before .before .pre .1 .4 .few (c .before .before .before .before .before .before .before .before .before .args .p) (c .before .before .before .before .before .before .before .before .before .pre .1 .0))) (c .arguments .ensures), known-less (now (c .before .before .before .before .before .before .before .before .before .args .f)) (c .before .before .before .before .before .before .before .before .before .args .n) _ (c .before .before .before .before .before .before .before .before .before .args .k) (now (c .before .before .before .before .before .before .before .before .before .args .tab)) (omega arith) (c .before .before .before .before .before .before .before .before .before .pre .1 .4), c .before .before .before .before .before .before .before .before .before .pre .1 .5))
 
 term-prim-returns-2 : (t : ℕ) → term-prim-lts.Need-returns-2 (term-prim-uses t) (term-prim-at t) term-prim.Post
-term-prim-returns-2 t c = found-struct (now (c .before .before .before .before .before .before .before .before .before .before .args .f)) (c .before .before .before .before .before .before .before .before .before .before .args .k) (c .before .before .before .before .before .before .before .before .before .before .args .p) (c .before .before .before .before .before .before .before .before .before .before .args .off) (c .before .before .before .before .before .before .before .before .before .before .args .i) (c .before .before .before .before .before .before .before .before .before .before .args .t5) _ _ _ (sym (c .before .before .before .before .before .before .before .head-of .ensures .0) ∙ c .before .before .before .before .before .number .given .1) (c .before .before .before .if2 .taken) (c .before .arguments .result) (c .before .before .before .before .before .before .before .before .before .before .pre .1 .3) (c .before .arguments .ensures) (c .struct-prim .result) (c .struct-prim .ensures)
+term-prim-returns-2 t c = (found-struct (now (c .before .before .before .before .before .before .before .before .before .before .args .f)) (c .before .before .before .before .before .before .before .before .before .before .args .k) (c .before .before .before .before .before .before .before .before .before .before .args .p) (c .before .before .before .before .before .before .before .before .before .before .args .off) (c .before .before .before .before .before .before .before .before .before .before .args .i) (c .before .before .before .before .before .before .before .before .before .before .args .t5) _ _ _ (sym (c .before .before .before .before .before .before .before .head-of .ensures .0) ∙ c .before .before .before .before .before .number .given .1) (c .before .before .before .if2 .taken) (c .before .arguments .result) (c .before .before .before .before .before .before .before .before .before .before .pre .1 .3) (c .before .arguments .ensures) (c .struct-prim .result) (c .struct-prim .ensures .0), c .struct-prim .ensures .1, c .struct-prim .ensures .2)
 
 term-prim-returns-3 : (t : ℕ) → term-prim-lts.Need-returns-3 (term-prim-uses t) (term-prim-at t) term-prim.Post
-term-prim-returns-3 t c = found-arr (arr-f t (c .before .before .before)) (arr-k t (c .before .before .before)) (arr-p t (c .before .before .before)) (c .before .before .before .before .before .before .before .before .before .before .args .off) (c .before .before .before .before .before .before .before .before .before .before .args .i) (c .before .before .before .before .before .before .before .before .before .before .args .t5) _ (arr-a t (c .before .before .before)) (arr-head t (c .before .before .before)) (c .before .before .before .before .before .before .before .before .before .before .pre .1 .1) (c .before .before .before .before .before .before .before .before .before .before .pre .1 .2) (c .before .core-in .result) (arr-core t (c .before)) _ _ (arr-count t (c .before .before .before)) (arr-size t (c .before .before .before)) (c .term-prim .result) (c .term-prim .ensures)
+term-prim-returns-3 t c = (found-arr (arr-f t (c .before .before .before)) (arr-k t (c .before .before .before)) (arr-p t (c .before .before .before)) (c .before .before .before .before .before .before .before .before .before .before .args .off) (c .before .before .before .before .before .before .before .before .before .before .args .i) (c .before .before .before .before .before .before .before .before .before .before .args .t5) _ (arr-a t (c .before .before .before)) (arr-head t (c .before .before .before)) (c .before .before .before .before .before .before .before .before .before .before .pre .1 .1) (c .before .before .before .before .before .before .before .before .before .before .pre .1 .2) (c .before .core-in .result) (arr-core t (c .before)) _ _ (arr-count t (c .before .before .before)) (arr-size t (c .before .before .before)) (c .term-prim .result) (c .term-prim .ensures .0), c .term-prim .ensures .1, c .term-prim .ensures .2)
 
 term-prim-returns-4 : (t : ℕ) → term-prim-lts.Need-returns-4 (term-prim-uses t) (term-prim-at t) term-prim.Post
 term-prim-returns-4 t c = absurd (struct-none (now (c .before .before .before .before .before .before .before .args .f)) (c .before .before .before .before .before .before .before .args .k) (c .before .before .before .before .before .before .before .args .p) (c .before .before .before .before .before .before .before .args .off) (c .before .before .before .before .before .before .before .args .i) (c .before .before .before .before .before .before .before .args .t5) _ _ _ (sym (c .before .before .before .before .head-of .ensures .0) ∙ c .before .before .number .given .1) (c .if2 .left) (c .before .before .before .before .before .before .before .pre .1 .2))
 
 term-prim-returns-5 : (t : ℕ) → term-prim-lts.Need-returns-5 (term-prim-uses t) (term-prim-at t) term-prim.Post
-term-prim-returns-5 t c = let a = c .before .before .before .before .before .args in found-single (now (a .f)) (a .k) (a .p) (a .off) (a .i) (a .t5) _ (single-int (now (a .f)) (a .k) (a .p) (a .off) (a .i) (a .t5) _ (sym (c .before .before .head-of .ensures .0) ∙ c .enum-told .given .1)) (c .before .before .before .before .before .pre .1 .2)
+term-prim-returns-5 t c = let a = c .before .before .before .before .before .args in (found-single (now (a .f)) (a .k) (a .p) (a .off) (a .i) (a .t5) _ (single-int (now (a .f)) (a .k) (a .p) (a .off) (a .i) (a .t5) _ (sym (c .before .before .head-of .ensures .0) ∙ c .enum-told .given .1)) (c .before .before .before .before .before .pre .1 .2), c .before .before .before .before .before .pre .1 .0, omega (arith, c .before .before .before .before .before .pre .1 .1))
 
 term-prim-returns-6 : (t : ℕ) → term-prim-lts.Need-returns-6 (term-prim-uses t) (term-prim-at t) term-prim.Post
-term-prim-returns-6 t c = let a = c .before .before .before .before .before .args in found-single (now (a .f)) (a .k) (a .p) (a .off) (a .i) (a .t5) _ (single-ptr (now (a .f)) (a .k) (a .p) (a .off) (a .i) (a .t5) _ _ (sym (c .before .before .head-of .ensures .0) ∙ c .enum-told2 .given .1)) (c .before .before .before .before .before .pre .1 .2)
+term-prim-returns-6 t c = let a = c .before .before .before .before .before .args in (found-single (now (a .f)) (a .k) (a .p) (a .off) (a .i) (a .t5) _ (single-ptr (now (a .f)) (a .k) (a .p) (a .off) (a .i) (a .t5) _ _ (sym (c .before .before .head-of .ensures .0) ∙ c .enum-told2 .given .1)) (c .before .before .before .before .before .pre .1 .2), c .before .before .before .before .before .pre .1 .0, omega (arith, c .before .before .before .before .before .pre .1 .1))
 
 pub +struct-prim+term-prim-spec : {M : Type 1} → statement M
 +struct-prim+term-prim-spec = close μ-struct-prim μ-term-prim (λ t. struct-prim-lts.spec (struct-prim-uses t)

@@ -31,7 +31,7 @@ term-prim-requires c κs = let l = core c .low in
     (omega arith, omega (arith, fits c, ap (λ (L : Layout variable). L .size) (same c)), omega (arith, c .before .before .before .pre .2, ap (λ (L : Layout variable). count L) (same c)), c .before .before .before .pre .3, known-table (now (c .before .before .before .args .f)) (c .before .before .before .args .n) (c .before .before .before .args .k) (now (c .before .before .before .args .tab)) (c .before .before .before .pre .0), omega (arith, c .before .before .before .pre .2))
 
 returns : tie.Need-returns
-returns c = subst (λ (L : Layout variable). Found (now (c .before .before .before .before .args .f)) (c .term-prim .result) (c .before .before .before .before .args .to) 0 (nth L (c .before .before .before .before .args .i))) (sym (same (c .before))) (c .term-prim .ensures)
+returns c = (subst (λ (L : Layout variable). Found (now (c .before .before .before .before .args .f)) (c .term-prim .result) (c .before .before .before .before .args .to) 0 (nth L (c .before .before .before .before .args .i))) (sym (same (c .before))) (c .term-prim .ensures .0), c .term-prim .ensures .1, c .term-prim .ensures .2)
 
 pub place-prim-spec : {M : Type 1} → statement M
 place-prim-spec = tie.close (tie.spec (λ c κs. search needs) term-prim-requires returns)

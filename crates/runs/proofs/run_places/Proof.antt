@@ -35,11 +35,11 @@ place-prim-requires-3 c κs = (c .before .before .before .before .before .before
 
 loop-again : tie.Need-loop-again Inv-loop μ-loop
 loop-again c = let a = c .before .before .before .before .before .before .before .before .before .args in
-    (omega arith, run-more (now (a .f)) (termLayout (now (a .f)) (a .k) (a .a)) (a .p) (a .d) (termLayout (now (a .f)) (a .k) (a .b)) (a .q) (c .before .before .before .before .before .before .place-prim .result) (c .before .before .before .place-prim2 .result) (c .before .before .place-prim3 .result) (c .before .before .before .before .before .loop .i) (c .before .before .before .before .before .before .place-prim .ensures) (c .before .before .before .place-prim2 .ensures) (c .before .before .place-prim3 .ensures) (c .before .same-prim .result) (c .before .same-prim .ensures) (c .if1 .taken) (c .before .before .before .before .before .loop .inv .1))
+    (omega arith, run-more (now (a .f)) (termLayout (now (a .f)) (a .k) (a .a)) (a .p) (a .d) (termLayout (now (a .f)) (a .k) (a .b)) (a .q) (c .before .before .before .before .before .before .place-prim .result) (c .before .before .before .place-prim2 .result) (c .before .before .place-prim3 .result) (c .before .before .before .before .before .loop .i) (c .before .before .before .before .before .before .place-prim .ensures .0) (c .before .before .before .place-prim2 .ensures .0) (c .before .before .place-prim3 .ensures .0) (c .before .same-prim .result) (c .before .same-prim .ensures) (c .if1 .taken) (c .before .before .before .before .before .loop .inv .1))
 
 returns : tie.Need-returns Inv-loop μ-loop
 returns c = let a = c .before .before .before .before .before .before .before .before .before .args in
-    run-stop (now (a .f)) (termLayout (now (a .f)) (a .k) (a .a)) (a .p) (a .d) (termLayout (now (a .f)) (a .k) (a .b)) (a .q) (c .before .before .before .before .before .before .place-prim .result) (c .before .before .before .place-prim2 .result) (c .before .before .place-prim3 .result) (c .before .before .before .before .before .loop .i) (c .before .before .before .before .before .before .place-prim .ensures) (c .before .before .before .place-prim2 .ensures) (c .before .before .place-prim3 .ensures) (c .before .same-prim .result) (c .before .same-prim .ensures) (omega (arith, c .before .before .before .before .before .before .before .before .before .pre .5, c .before .before .before .before .loop-test .taken)) (c .if1 .left)
+    run-stop (now (a .f)) (termLayout (now (a .f)) (a .k) (a .a)) (a .p) (a .d) (termLayout (now (a .f)) (a .k) (a .b)) (a .q) (c .before .before .before .before .before .before .place-prim .result) (c .before .before .before .place-prim2 .result) (c .before .before .place-prim3 .result) (c .before .before .before .before .before .loop .i) (c .before .before .before .before .before .before .place-prim .ensures .0) (c .before .before .before .place-prim2 .ensures .0) (c .before .before .place-prim3 .ensures .0) (c .before .same-prim .result) (c .before .same-prim .ensures) (omega (arith, c .before .before .before .before .before .before .before .before .before .pre .5, c .before .before .before .before .loop-test .taken)) (c .if1 .left)
 
 returns-2 : tie.Need-returns-2 Inv-loop μ-loop
 returns-2 c = let a = c .before .before .before .before .before .args in

@@ -1,0 +1,56 @@
+-- `values::pages::page_ok` meets its contract: by whether the page has an owner, and whether that is live. Assumes nothing.
+use native.Mathlib.Omega.{arith}
+use mathlib.Core.Path.{_≡_, ap, _∙_}
+use Prim.Native.Nat.{ℕ, _-_}
+use Rattle.stack.specs.Tells.{tells-yes}
+use Rattle.values.specs.Pages.{page-none, page-dead, page-by}
+use borrow.Author.Needs.{needs}
+use Rattle.values.proofs.pages.page_ok.Statement.{statement}
+use Rattle.values.proofs.pages.page_ok.Tie as tie
+
+owner-requires : tie.Need-owner-requires
+owner-requires c κs = search needs
+
+wide-requires : tie.Need-wide-requires
+wide-requires c κs = search needs
+
+returns : tie.Need-returns
+returns c = tells-yes (page-none (c .before .wide .ensures .0 ∙ c .before .before .owner .ensures) (c .if1 .taken))
+
+sub-home-of : tie.Need-sub-home-of
+sub-home-of c = search needs
+
+home-of-requires : tie.Need-home-of-requires
+home-of-requires c κs = search needs
+
+returns-2 : tie.Need-returns-2
+returns-2 c = tells-yes (page-dead (c .before .before .before .before .wide .ensures .0 ∙ c .before .before .before .before .before .owner .ensures) (c .before .before .before .if1 .left) (c .before .before .home-of .ensures) (c .if2 .taken))
+
+sub-objects-of : tie.Need-sub-objects-of
+sub-objects-of c = search needs
+
+objects-of-requires : tie.Need-objects-of-requires
+objects-of-requires c κs =
+    let q = c .before .before .before .before .before .before .before .before .before .pre in
+    (q .1 .0, (q .1 .1 .0, (c .before .before .home-of .ensures, omega (arith, c .if2 .left), ap (λ (x : ℕ). x - 1) (c .before .before .before .before .wide .ensures .0 ∙ c .before .before .before .before .before .owner .ensures))))
+
+positions-ok-requires : tie.Need-positions-ok-requires
+positions-ok-requires c κs = search needs
+
+returns-3 : tie.Need-returns-3
+returns-3 c = page-by (c .before .before .before .before .before .before .wide .ensures .0 ∙ c .before .before .before .before .before .before .before .owner .ensures) (c .before .before .before .before .before .if1 .left) (c .before .objects-of .ensures) (c .positions-ok .ensures)
+
+pub page-ok-spec : {M : Type 1} → statement M
+page-ok-spec =
+    tie.close
+    (tie.spec
+    owner-requires
+    wide-requires
+    returns
+    sub-home-of
+    home-of-requires
+    returns-2
+    sub-objects-of
+    objects-of-requires
+    positions-ok-requires
+    returns-3)

@@ -1,0 +1,49 @@
+-- `values::pages::places_ok` meets its contract: every place before j is right. Assumes nothing.
+use borrow.Author.Needs.{needs}
+use native.Mathlib.Omega.{arith}
+use Prim.Native.Nat.{ℕ, _+_, _-_, _<_, _≤_}
+use Rattle.stack.specs.Tells.{scan-none, scan-more, scan-broken, scan-ended}
+use Rattle.values.specs.Pages.{PlaceOk}
+use Rattle.values.proofs.pages.places_ok.Statement.{statement}
+use Rattle.values.proofs.pages.places_ok.Tie as tie
+
+abbrev Inv-loop : tie.InvT-loop
+Inv-loop f starts functions terms structs tab s n p size to t d j₀ j = (j ≤ 256) × ((z : ℕ) → z < j → PlaceOk f s n p size to t d z)
+
+abbrev μ-loop : tie.MeasureT-loop
+μ-loop f starts functions terms structs tab s n p size to t d j₀ j = 256 - j
+
+loop-holds : tie.Need-loop-holds Inv-loop μ-loop
+loop-holds c = (omega arith, scan-none _)
+
+place-ok-requires : tie.Need-place-ok-requires Inv-loop μ-loop
+place-ok-requires c κs = search needs
+
+returns : tie.Need-returns Inv-loop μ-loop
+returns c = scan-broken _ _ _ (omega arith) (c .before .place-ok .ensures) (c .if1 .taken)
+
+add-j : tie.Need-add-j Inv-loop μ-loop
+add-j c = search needs
+
+loop-less : tie.Need-loop-less Inv-loop μ-loop
+loop-less c = search needs
+
+loop-again : tie.Need-loop-again Inv-loop μ-loop
+loop-again c = (omega arith, scan-more _ _ (c .before .before .before .loop .inv .1) (c .before .place-ok .ensures) (c .if1 .left))
+
+returns-2 : tie.Need-returns-2 Inv-loop μ-loop
+returns-2 c = scan-ended _ _ _ (c .before .loop .inv .1) (c .loop-test .left)
+
+pub places-ok-spec : {M : Type 1} → statement M
+places-ok-spec =
+    tie.close
+    (tie.spec
+    Inv-loop
+    μ-loop
+    loop-holds
+    place-ok-requires
+    returns
+    add-j
+    loop-less
+    loop-again
+    returns-2)

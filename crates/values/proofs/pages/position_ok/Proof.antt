@@ -1,0 +1,39 @@
+-- `values::pages::position_ok` meets its contract: the primitive that is found, in each place. Assumes nothing.
+use native.Mathlib.Omega.{arith}
+use Rattle.values.specs.Pages.{position-by, position-integer}
+use borrow.Author.Needs.{needs}
+use Rattle.values.proofs.pages.position_ok.Statement.{statement}
+use Rattle.values.proofs.pages.position_ok.Tie as tie
+
+place-prim-requires : tie.Need-place-prim-requires
+place-prim-requires c κs = search needs
+
+term-at-requires : tie.Need-term-at-requires
+term-at-requires c κs = search needs
+
+form-requires : tie.Need-form-requires
+form-requires c κs = search needs
+
+returns : tie.Need-returns
+returns c =
+    let q = c .before .before .before .before .before .before .before .before .before .pre .1 in
+    position-integer (q .1 .1 .2) (q .0) (c .before .before .before .before .before .before .before .before .before .args .i) (c .before .before .before .before .place-prim .result) (c .before .before .before .before .place-prim .ensures .0) (c .before .before .term-at .result) (c .before .before .term-at .ensures) (c .before .form .ensures) (λ i. omega (arith, c .before .before .before .before .before .before .shared-slice-known3 .given i)) (c .if1 .taken)
+
+places-ok-requires : tie.Need-places-ok-requires
+places-ok-requires c κs = search needs
+
+returns-2 : tie.Need-returns-2
+returns-2 c =
+    let q = c .before .before .before .before .before .before .before .before .before .before .pre .1 in
+    position-by (q .1 .1 .2) (q .0) (c .before .before .before .before .before .before .before .before .before .before .args .i) (c .before .before .before .before .before .place-prim .result) (c .before .before .before .before .before .place-prim .ensures .0) (c .before .before .before .term-at .result) (c .before .before .before .term-at .ensures) (c .places-ok .ensures)
+
+pub position-ok-spec : {M : Type 1} → statement M
+position-ok-spec =
+    tie.close
+    (tie.spec
+    place-prim-requires
+    term-at-requires
+    form-requires
+    returns
+    places-ok-requires
+    returns-2)

@@ -1,0 +1,272 @@
+// "each primitive in each owned page is a value of its type": page by page, position by position, place by place. What the objects
+// of a page are is found once a page, the primitive at a position once for all places.
+ghost use mathlib.Core.Path.{_≡_};
+ghost use Prim.Native.Nat.{ℕ, _-_, _<_, _≤_};
+ghost use Rattle.rules.specs.Limits.{pages, pageBytes};
+ghost use Rattle.rules.specs.State.{pageOwner};
+ghost use Rattle.terms.specs.Heads.{placeOf};
+ghost use Rattle.runs.specs.Table.{Table};
+ghost use Rattle.runs.specs.Maps.{Narrow};
+ghost use Rattle.stack.specs.Tells.{Tells};
+ghost use Rattle.stack.specs.Facts.{Known};
+ghost use Rattle.objects.specs.Homes.{HomeIs};
+ghost use Rattle.values.specs.Passes.{AllPrimitives};
+ghost use Rattle.values.specs.Pages.{PlaceOk, PositionOk, PagePrimitives, ObjectsAre};
+use crate::map_of;
+use crate::memory::primitive_ok;
+use objects::Home;
+use objects::home_of;
+use state::Machine;
+use terms::form;
+use walk::limits::CALLEES;
+
+// What the objects of a page are: the place of their term, the regions put in, their size and how many primitives each has.
+pub struct Objects {
+    pub place: usize,
+    pub to: [u8; 8],
+    pub size: usize,
+    pub count: usize,
+}
+
+// The number of the term at place p.
+fn term_at(n: usize, p: usize) -> usize
+    requires { ⌜ p ≤ n ⌝ }
+    ensures { λ t. ⌜ placeOf n t ≡ p ⌝ }
+{
+    if p == 0 {
+        return n;
+    }
+    p - 1
+}
+
+// The primitive at distance d of the object at place j of page p, of term t under `to`; objects have this size. Where there is no
+// such place nothing is asked.
+fn place_ok(
+    f: &[u8],
+    starts: &[usize; CALLEES],
+    functions: usize,
+    terms: usize,
+    structs: usize,
+    tab: &[u64],
+    s: &[u8],
+    n: u32,
+    p: u32,
+    size: usize,
+    to: [u8; 8],
+    t: usize,
+    d: usize,
+    j: usize,
+) -> bool
+    requires { ⌜ Known (now f) (now starts) functions ⌝ ∗ ⌜ Table (now f) terms structs (now tab) ⌝ ∗ ⌜ Narrow (now f) ⌝ ∗ ⌜ (p < pages) × (size ≤ 257) × (d ≤ 256) × (j < 256) ⌝ }
+    ensures { λ b. ⌜ Tells b (PlaceOk (now (f .entry)) (now (s .entry)) n p size to t d j) ⌝ }
+{
+    if size * (j + 1) > Machine::PAGE_BYTES as usize {
+        return true;
+    }
+    let x = Machine::PAGE_BYTES * p + (size * j + d) as u32;
+    primitive_ok(f, starts, functions, terms, structs, tab, s, n, to, t, x)
+}
+
+fn places_ok(
+    f: &[u8],
+    starts: &[usize; CALLEES],
+    functions: usize,
+    terms: usize,
+    structs: usize,
+    tab: &[u64],
+    s: &[u8],
+    n: u32,
+    p: u32,
+    size: usize,
+    to: [u8; 8],
+    t: usize,
+    d: usize,
+) -> bool
+    requires { ⌜ Known (now f) (now starts) functions ⌝ ∗ ⌜ Table (now f) terms structs (now tab) ⌝ ∗ ⌜ Narrow (now f) ⌝ ∗ ⌜ (p < pages) × (size ≤ 257) × (d ≤ 256) ⌝ }
+    ensures { λ b. ⌜ Tells b ((j : ℕ) → j < pageBytes → PlaceOk (now (f .entry)) (now (s .entry)) n p size to t d j) ⌝ }
+{
+    let mut j = 0;
+    while j < 256 {
+        if !place_ok(
+            f,
+            starts,
+            functions,
+            terms,
+            structs,
+            tab,
+            s,
+            n,
+            p,
+            size,
+            to,
+            t,
+            d,
+            j,
+        ) {
+            return false;
+        }
+        j += 1;
+    }
+    true
+}
+
+// Primitive i of each object of page p. (An integer's bytes always hold one of its values: nothing is read.)
+fn position_ok(
+    f: &[u8],
+    starts: &[usize; CALLEES],
+    functions: usize,
+    terms: usize,
+    structs: usize,
+    tab: &[u64],
+    s: &[u8],
+    n: u32,
+    p: u32,
+    o: Objects,
+    i: usize,
+) -> bool
+    requires { ⌜ Known (now f) (now starts) functions ⌝ ∗ ⌜ Table (now f) terms structs (now tab) ⌝ ∗ ⌜ Narrow (now f) ⌝ ∗ ⌜ (p < pages) × (i < o .count) × (ObjectsAre (now f) (now s) n p terms structs o) ⌝ }
+    ensures { λ b. ⌜ Tells b (PositionOk (now (f .entry)) (now (s .entry)) n p i) ⌝ }
+{
+    let regions = o.to;
+    let x = runs::place_prim(f, terms, structs, o.place, regions, i, tab);
+    let to = x.to;
+    let t = term_at(terms, x.place);
+    let kind = form(f, terms, t);
+    if kind == 1 {
+        return true;
+    }
+    places_ok(
+        f,
+        starts,
+        functions,
+        terms,
+        structs,
+        tab,
+        s,
+        n,
+        p,
+        o.size,
+        to,
+        t,
+        x.off,
+    )
+}
+
+fn positions_ok(
+    f: &[u8],
+    starts: &[usize; CALLEES],
+    functions: usize,
+    terms: usize,
+    structs: usize,
+    tab: &[u64],
+    s: &[u8],
+    n: u32,
+    p: u32,
+    o: Objects,
+) -> bool
+    requires { ⌜ Known (now f) (now starts) functions ⌝ ∗ ⌜ Table (now f) terms structs (now tab) ⌝ ∗ ⌜ Narrow (now f) ⌝ ∗ ⌜ (p < pages) × (ObjectsAre (now f) (now s) n p terms structs o) ⌝ }
+    ensures { λ b. ⌜ Tells b ((i : ℕ) → i < o .count → PositionOk (now (f .entry)) (now (s .entry)) n p i) ⌝ }
+{
+    let many = o.count;
+    let mut i = 0;
+    while i < many {
+        if !position_ok(f, starts, functions, terms, structs, tab, s, n, p, o, i) {
+            return false;
+        }
+        i += 1;
+    }
+    true
+}
+
+// The objects of page p, whose region is r, of the type at home h.
+fn objects_of(
+    f: &[u8],
+    terms: usize,
+    structs: usize,
+    tab: &[u64],
+    s: &[u8],
+    n: u32,
+    p: u32,
+    r: u32,
+    h: Home,
+) -> Objects
+    requires { ⌜ Table (now f) terms structs (now tab) ⌝ ∗ ⌜ Narrow (now f) ⌝ ∗ ⌜ (HomeIs (now f) (now s) n r h) × (0 < h .frame) × (r ≡ pageOwner (now s) p - 1) ⌝ }
+    ensures { λ o. ⌜ ObjectsAre (now (f .entry)) (now (s .entry)) n p terms structs o ⌝ }
+{
+    let frame = h.frame;
+    let term = h.term;
+    let map = map_of(s, frame - 1);
+    let e = runs::extent_at(terms, term, tab, f, structs);
+    let to = runs::held(&map);
+    Objects {
+        place: terms::place_of(terms, term),
+        to,
+        size: e.size,
+        count: e.count,
+    }
+}
+
+fn page_ok(
+    f: &[u8],
+    starts: &[usize; CALLEES],
+    functions: usize,
+    terms: usize,
+    structs: usize,
+    tab: &[u64],
+    s: &[u8],
+    n: u32,
+    p: u32,
+) -> bool
+    requires { ⌜ Known (now f) (now starts) functions ⌝ ∗ ⌜ Table (now f) terms structs (now tab) ⌝ ∗ ⌜ Narrow (now f) ⌝ ∗ ⌜ p < pages ⌝ }
+    ensures { λ b. ⌜ Tells b (PagePrimitives (now (f .entry)) (now (s .entry)) n p) ⌝ }
+{
+    let owner = words::wide(state::total::owner(s, p));
+    if owner == 0 {
+        return true;
+    }
+    let h = home_of(f, starts, functions, s, n, owner - 1);
+    if h.frame == 0 {
+        return true;
+    }
+    let o = objects_of(f, terms, structs, tab, s, n, p, owner - 1, h);
+    positions_ok(f, starts, functions, terms, structs, tab, s, n, p, o)
+}
+
+fn all_pages(
+    f: &[u8],
+    starts: &[usize; CALLEES],
+    functions: usize,
+    terms: usize,
+    structs: usize,
+    tab: &[u64],
+    s: &[u8],
+    n: u32,
+) -> bool
+    requires { ⌜ Known (now f) (now starts) functions ⌝ ∗ ⌜ Table (now f) terms structs (now tab) ⌝ ∗ ⌜ Narrow (now f) ⌝ }
+    ensures { λ b. ⌜ Tells b ((p : ℕ) → p < pages → PagePrimitives (now (f .entry)) (now (s .entry)) n p) ⌝ }
+{
+    let mut p = 0;
+    while p < Machine::PAGES {
+        if !page_ok(f, starts, functions, terms, structs, tab, s, n, p) {
+            return false;
+        }
+        p += 1;
+    }
+    true
+}
+
+pub fn primitives_ok(
+    f: &[u8],
+    starts: &[usize; CALLEES],
+    functions: usize,
+    terms: usize,
+    structs: usize,
+    tab: &[u64],
+    s: &[u8],
+) -> bool
+    requires { ⌜ Known (now f) (now starts) functions ⌝ ∗ ⌜ Table (now f) terms structs (now tab) ⌝ ∗ ⌜ Narrow (now f) ⌝ }
+    ensures { λ b. ⌜ Tells b (AllPrimitives (now (f .entry)) (now (s .entry))) ⌝ }
+{
+    let n = words::wide(state::total::frames(s));
+    all_pages(f, starts, functions, terms, structs, tab, s, n)
+}
