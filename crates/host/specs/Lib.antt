@@ -2,3 +2,7 @@
 pub mod Verdicts
 pub mod First
 pub mod Opening
+pub mod Ready
+pub mod Testing
+pub mod Reading
+pub mod Going

@@ -1,5 +1,5 @@
 -- "1 to 8 come first": what a verdict gives to the answers that go by it. Assumes nothing.
-use mathlib.Core.Path.{_≡_, sym, ap, _∙_, subst}
+use mathlib.Core.Path.{_≡_, sym, ap, _∙_}
 use Prim.Native.Nat.{ℕ}
 use Rattle.words.specs.Bytes.{Bytes}
 use Rattle.rules.specs.Verdict.{verdictOf, IsAccepted}
@@ -7,11 +7,6 @@ use Rattle.rules.specs.Host.{onVerdict}
 use Rattle.rules.specs.declared.Verdict.{Verdict}
 use Rattle.rules.specs.declared.Verdict.the-variants.{Accepted, Refused}
 use Rattle.typing.specs.Accepted.{counts}
-
--- the code's verdict, by its case
-module _ (f : Bytes) {v : Verdict} (e : v ≡ verdictOf f) where
-  pub accepted-by : {t n c i : ℕ} → v ≡ Accepted t n c i → IsAccepted (verdictOf f)
-  accepted-by d = subst IsAccepted (sym d ∙ e) tt
 
 module _ {B : Type 0} (refuse : ℕ → ℕ → B) (f : Bytes) (b : B) where
   pub on-refused : {v : Verdict} {n p : ℕ} → v ≡ verdictOf f → v ≡ Refused n p → refuse n p ≡ onVerdict refuse (verdictOf f) b

@@ -1,6 +1,6 @@
 -- `host::open::open` meets its contract: the verdict first.
 use mathlib.Core.Path.{refl}
-use Rattle.host.specs.Verdicts.{accepted-by}
+use Rattle.guarantees.specs.Accepted.{says-accepted}
 use Rattle.host.specs.Opening.{open-refused, left-refused}
 use borrow.Author.Needs.{needs}
 use Rattle.host.proofs.open.open.Statement.{statement}
@@ -13,7 +13,7 @@ enum-told : tie.Need-enum-told
 enum-told c = search needs
 
 open-accepted-requires : tie.Need-open-accepted-requires
-open-accepted-requires c κs = accepted-by _ (c .before .before .before .verdict .ensures) (c .before .enum-told .given .1)
+open-accepted-requires c κs = says-accepted _ (c .before .before .before .verdict .ensures) (c .before .enum-told .given .1)
 
 enum-known-v : tie.Need-enum-known-v
 enum-known-v c = search needs
