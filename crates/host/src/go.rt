@@ -1,0 +1,145 @@
+// Going on: the order of refusals, and a run of a tested state.
+ghost use mathlib.Core.Path.{_≡_};
+ghost use Prim.Native.Nat.{_≤_};
+ghost use lib.ListN.{length};
+ghost use Rattle.rules.specs.Limits.{mostForm, outputBytes, stateBytes};
+ghost use Rattle.rules.specs.Decode.{moduleOf};
+ghost use Rattle.rules.specs.State.{view};
+ghost use Rattle.rules.specs.StateTest.{Passes};
+ghost use Rattle.rules.specs.Verdict.{verdictOf, IsAccepted};
+ghost use Rattle.rules.specs.Host.{goOf};
+ghost use Rattle.host.specs.Ready.{Ready};
+ghost use Rattle.host.specs.Going.{WentBy, Answers};
+use crate::tables::Tables;
+use crate::tables::passes;
+use crate::tables::tables_of;
+use prepare::code::CODE_WORDS;
+use prepare::fill;
+use rules::Verdict;
+use run::Outcome;
+use run::outcome_of;
+use run::run::run;
+use state::Machine;
+use state::fields::status;
+use walk::limits::CALLEES;
+
+// Going on's answer: refused with document 01's number and place; ended with a value, stopped for a reason, or running, after so many steps.
+pub enum Went {
+    Refused { number: usize, place: usize },
+    Ended { value: u32, steps: u64 },
+    Stopped { number: u8, steps: u64 },
+    Running { steps: u64 },
+}
+
+// The answer of a run that took so many steps, by the state that it left.
+fn answer(s: &[u8], steps: u64) -> Went
+    requires { ⌜ length (now s) ≡ stateBytes ⌝ }
+    ensures { λ r. ⌜ Answers r (view (now (s .entry))) steps ⌝ }
+{
+    let c = outcome_of(s);
+    match c {
+        Outcome::Running => Went::Running { steps },
+        Outcome::Ended(value) => Went::Ended { value, steps },
+        Outcome::Stopped(number) => Went::Stopped { number, steps },
+    }
+}
+
+// Of a running state that passes the test: what the run reads is filled once, then at most budget steps.
+fn go_running(file: &[u8], t: Tables, form: &[u8], s: &mut [u8], o: &mut [u8], budget: u64) -> Went
+    requires { ⌜ Ready (now file) t ⌝ ∗ ⌜ Passes (moduleOf (now file)) (now s) ⌝ ∗ ⌜ (view (now s) .status ≡ 0) × (length (now form) ≤ mostForm) × (length (now o) ≡ outputBytes) ⌝ }
+    ensures { λ r. ⌜ WentBy r (now (s .entry)) (now (s .exit)) (now (o .entry)) (now (o .exit)) (goOf (now (file .entry)) (now (form .entry)) (now (s .entry)) (now (o .entry)) budget) ⌝ }
+{
+    let starts = t.starts;
+    let extents = t.extents;
+    let mut code = [0u64; CODE_WORDS];
+    let mut functions = [0u64; CALLEES];
+    let mut given = [0u8; CALLEES];
+    let mut own = [0u8; CALLEES];
+    fill(
+        file,
+        t.terms,
+        t.structs,
+        t.functions,
+        &starts,
+        &extents,
+        &mut code,
+        &mut functions,
+        &mut given,
+        &mut own,
+    );
+    let n = run(
+        file,
+        t.terms,
+        t.structs,
+        &extents,
+        &code,
+        &functions,
+        &given,
+        &own,
+        form,
+        s,
+        o,
+        budget,
+    );
+    answer(s, n)
+}
+
+// Of an accepted module, where form, state and output have their lengths: the state test, then whether the state runs.
+fn go_tested(file: &[u8], form: &[u8], s: &mut [u8], o: &mut [u8], budget: u64) -> Went
+    requires { ⌜ IsAccepted (verdictOf (now file)) ⌝ ∗ ⌜ (length (now form) ≤ mostForm) × (length (now s) ≡ stateBytes) × (length (now o) ≡ outputBytes) ⌝ }
+    ensures { λ r. ⌜ WentBy r (now (s .entry)) (now (s .exit)) (now (o .entry)) (now (o .exit)) (goOf (now (file .entry)) (now (form .entry)) (now (s .entry)) (now (o .entry)) budget) ⌝ }
+{
+    let t = tables_of(file);
+    if passes(file, t, s) {
+        if status(s) == 0 {
+            go_running(file, t, form, s, o, budget)
+        } else {
+            Went::Refused {
+                number: 22,
+                place: 0,
+            }
+        }
+    } else {
+        Went::Refused {
+            number: 21,
+            place: 0,
+        }
+    }
+}
+
+// Of an accepted module: the form's length, then those of state and output.
+fn go_accepted(file: &[u8], form: &[u8], s: &mut [u8], o: &mut [u8], budget: u64) -> Went
+    requires { ⌜ IsAccepted (verdictOf (now file)) ⌝ }
+    ensures { λ r. ⌜ WentBy r (now (s .entry)) (now (s .exit)) (now (o .entry)) (now (o .exit)) (goOf (now (file .entry)) (now (form .entry)) (now (s .entry)) (now (o .entry)) budget) ⌝ }
+{
+    if Machine::MOST_FORM < form.len() {
+        return Went::Refused {
+            number: 9,
+            place: 0,
+        };
+    }
+    if (s.len() == Machine::STATE_BYTES) & (o.len() == Machine::OUTPUT_BYTES) {
+        go_tested(file, form, s, o, budget)
+    } else {
+        Went::Refused {
+            number: 20,
+            place: 0,
+        }
+    }
+}
+
+// Going on for at most budget steps. A refusal leaves state and output as they were.
+pub fn go(file: &[u8], form: &[u8], s: &mut [u8], o: &mut [u8], budget: u64) -> Went
+    ensures { λ r. ⌜ WentBy r (now (s .entry)) (now (s .exit)) (now (o .entry)) (now (o .exit)) (goOf (now (file .entry)) (now (form .entry)) (now (s .entry)) (now (o .entry)) budget) ⌝ }
+{
+    let v = checker::verdict(file);
+    match v {
+        Verdict::Accepted {
+            terms: _,
+            names: _,
+            functions: _,
+            instructions: _,
+        } => go_accepted(file, form, s, o, budget),
+        Verdict::Refused { number, place } => Went::Refused { number, place },
+    }
+}

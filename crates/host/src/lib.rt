@@ -1,0 +1,7 @@
+// What a host calls: opening, going on, the state test and the reader of states, for all inputs. Each contract gives the answer and the
+// bytes left by a definition of rules' Host.
+pub mod go;
+pub mod object;
+pub mod open;
+pub mod tables;
+pub mod test;

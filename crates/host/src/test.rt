@@ -1,0 +1,52 @@
+// The state test of lent bytes against a module file.
+ghost use mathlib.Core.Path.{_≡_};
+ghost use Rattle.rules.specs.Verdict.{verdictOf, IsAccepted};
+ghost use Rattle.rules.specs.Host.{testOf};
+ghost use Rattle.host.specs.Testing.{testedMeant};
+use crate::tables::passes;
+use crate::tables::tables_of;
+use rules::Verdict;
+use state::Machine;
+
+// The state test's answer: refused with document 01's number and place, or passed.
+pub enum Tested {
+    Refused { number: usize, place: usize },
+    Passed,
+}
+
+// Of an accepted module: the length first.
+fn test_accepted(file: &[u8], s: &[u8]) -> Tested
+    requires { ⌜ IsAccepted (verdictOf (now file)) ⌝ }
+    ensures { λ r. ⌜ testedMeant r ≡ testOf (now (file .entry)) (now (s .entry)) ⌝ }
+{
+    if s.len() != Machine::STATE_BYTES {
+        return Tested::Refused {
+            number: 20,
+            place: 0,
+        };
+    }
+    let t = tables_of(file);
+    if passes(file, t, s) {
+        Tested::Passed
+    } else {
+        Tested::Refused {
+            number: 21,
+            place: 0,
+        }
+    }
+}
+
+pub fn state_test(file: &[u8], s: &[u8]) -> Tested
+    ensures { λ r. ⌜ testedMeant r ≡ testOf (now (file .entry)) (now (s .entry)) ⌝ }
+{
+    let v = checker::verdict(file);
+    match v {
+        Verdict::Accepted {
+            terms: _,
+            names: _,
+            functions: _,
+            instructions: _,
+        } => test_accepted(file, s),
+        Verdict::Refused { number, place } => Tested::Refused { number, place },
+    }
+}
