@@ -5,8 +5,7 @@ use mathlib.Core.Bool.{Bool, true}
 use mathlib.Core.List.{List}
 use mathlib.Core.Logic.{_≢_, ⊎-elim}
 use Prim.Native.Nat.{ℕ, zero, suc, _+_, _-_, _*_, _/_, _<_, _≤_}
-use native.Mathlib.Nat.{mul-suc, mul-comm, div-lt-iff-lt-mul}
-use native.Mathlib.Numerals.{add-one}
+use native.Mathlib.Nat.{mul-suc, mul-comm, div-lt-iff-lt-mul, le-div-iff-mul-le}
 use native.Mathlib.Omega.{arith}
 use Rattle.words.specs.Bytes.{Bytes, AllBytes}
 use Rattle.words.specs.Choose.{lt-or-le}
@@ -63,15 +62,14 @@ pub record ObjectsAre (f s : Bytes) (n p terms structs : ℕ) (o : Objects) : Ty
   pub low : o .place ≤ terms
   pub keeps : Keeps (o .to)
   pub size : o .size ≡ size (moduleOf f) (pageTree f s n p)
-  pub small : o .size ≤ 257
   pub count : o .count ≡ count (termLayout f structs (o .place))
   pub layout : flat (moduleOf f) (pageTree f s n p) ≡ subLayout (under {k = live} (o .to)) (termLayout f structs (o .place))
 
 pub objects-are : {f s : Bytes} {n p r terms structs a : ℕ} {tab : List ℕ} {h : Home} {map to : Bytes} {e : Extent} → Table f terms structs tab → Narrow f → HomeIs f s n r h
     → r ≡ pageOwner s p - 1 → h .frame ≢ 0 → a ≡ placeOf terms (h .term) → map ≡ mapList s (h .frame - 1) → Agree to map
-    → e ≡ exactOf (flat (moduleOf f) (moduleOf f .term (h .term))) → e .size ≤ 257
+    → e ≡ exactOf (flat (moduleOf f) (moduleOf f .term (h .term)))
     → ObjectsAre f s n p terms structs (record { place = a; to = to; size = e .size; count = e .count })
-objects-are {f} {s} {n} {p} {r} {terms} {structs} {a} {tab} {h} {map} {to} {e} table narrow home er d ea em agree ee small =
+objects-are {f} {s} {n} {p} {r} {terms} {structs} {a} {tab} {h} {map} {to} {e} table narrow home er d ea em agree ee =
     let k : ℕ = h .frame - 1 in
     let hk : h .frame ≡ suc k = omega (arith, d) in
     let T : Tree variable = moduleOf f .term (h .term) in
@@ -83,7 +81,6 @@ objects-are {f} {s} {n} {p} {r} {terms} {structs} {a} {tab} {h} {map} {to} {e} t
       low = rw ea (place-le terms (h .term));
       keeps = keeps;
       size = size-some home d z ∙ ap (λ (x : ℕ). size (moduleOf f) (regionTree f s n x)) er;
-      small = small;
       count = ap (λ (x : Extent). x .count) ee ∙ ap (λ (L : Layout variable). count L) (sym (ap (termLayout f structs) ea ∙ layout-term f terms structs (table .counted) (h .term)));
       layout = ap (flat (moduleOf f)) tree ∙ sym (layout-under live f terms structs (table .counted) (h .term) map to keeps agree)
           ∙ ap (λ (x : ℕ). subLayout (under {k = live} to) (termLayout f structs x)) (sym ea);
@@ -101,10 +98,11 @@ place-none n p e = place-out n n (omega arith) ∙ sym e
 -- a page has r places for objects of size z
 pub record PlacesIn (z r : ℕ) : Type 0 where
   pub few : r ≤ pageBytes
+  pub inside : (j : ℕ) → j < r → z * suc j ≤ pageBytes
   pub past : (j : ℕ) → j < pageBytes → r ≤ j → pageBytes < z * suc j
 
-pub places-all : (z : ℕ) → PlacesIn z pageBytes
-places-all z = record { few = omega arith; past = λ j h l. absurd (omega arith) }
+pub places-all : (z : ℕ) → z ≡ 0 → PlacesIn z pageBytes
+places-all z e = record { few = omega arith; inside = λ j l. let q : 0 * suc j ≤ pageBytes = omega arith in rw e q; past = λ j h l. absurd (omega arith) }
 
 pub places-some : (z : ℕ) → z ≢ 0 → PlacesIn z (pageBytes / z)
 places-some z d =
@@ -112,22 +110,17 @@ places-some z d =
     let few : pageBytes / z < suc pageBytes = div-lt-iff-lt-mul h .1 (omega arith) in
     record {
       few = omega arith;
+      inside = λ j l. let a : suc j * z ≤ pageBytes = le-div-iff-mul-le h .0 l in let c = mul-comm (suc j) z in omega arith;
       past = λ j l k. let a : pageBytes < suc j * z = div-lt-iff-lt-mul h .0 (let q : pageBytes / z < suc j = omega arith in q) in let c = mul-comm (suc j) z in omega arith;
     }
 
--- a place that there is, and its address
-pub place-few : (z j : ℕ) → z * (j + 1) ≤ pageBytes → z * j ≤ pageBytes
-place-few z j h = let q : z * (j + 1) ≡ z * suc j = ap (λ (i : ℕ). z * i) (add-one j) in let m = mul-suc z j in omega arith
-
-one-more : (z j : ℕ) → z * (j + 1) ≡ z * suc j
-one-more z j = ap (λ (i : ℕ). z * i) (add-one j)
+-- a place that there is starts in the page
+pub place-few : (z j : ℕ) → z * suc j ≤ pageBytes → z * j ≤ pageBytes
+place-few z j h = let m = mul-suc z j in omega arith
 
 module _ {f s : Bytes} {n p z : ℕ} {to : Bytes} {t d : ℕ} where
-  pub place-past : {j : ℕ} → pageBytes < z * (j + 1) → PlaceOk f s n p z to t d j
-  place-past {j} h = record { is = λ l. absurd (omega (arith, one-more z j)) }
-
-  pub place-by : {j : ℕ} {b : Bool} {x : ℕ} → z * (j + 1) ≤ pageBytes → x ≡ pageBytes * p + (z * j + d) → Tells b (PrimitiveAt f s n to t x) → Tells b (PlaceOk f s n p z to t d j)
-  place-by {j} h e u = tells-map (λ w. record { is = λ l. rw e at w }) (λ w. rw e (w .is (omega (arith, one-more z j)))) u
+  pub place-by : {j : ℕ} {b : Bool} {x : ℕ} → z * suc j ≤ pageBytes → x ≡ pageBytes * p + (z * j + d) → Tells b (PrimitiveAt f s n to t x) → Tells b (PlaceOk f s n p z to t d j)
+  place-by {j} h e u = tells-map (λ w. record { is = λ l. rw e at w }) (λ w. rw e (w .is h)) u
 
   -- past the last place
   pub places-ended : {many i : ℕ} → PlacesIn z many → ((j : ℕ) → j < i → PlaceOk f s n p z to t d j) → many ≤ i → Tells true ((j : ℕ) → j < pageBytes → PlaceOk f s n p z to t d j)

@@ -1,7 +1,7 @@
 // "each primitive in each owned page is a value of its type": page by page, position by position, place by place. What the objects
 // of a page are is found once a page, the primitive at a position and where it leads once for all places.
 ghost use mathlib.Core.Path.{_≡_};
-ghost use Prim.Native.Nat.{ℕ, _-_, _<_, _≤_};
+ghost use Prim.Native.Nat.{ℕ, suc, _-_, _*_, _<_, _≤_};
 ghost use Rattle.rules.specs.Limits.{pages, pageBytes};
 ghost use Rattle.rules.specs.State.{pageOwner};
 ghost use Rattle.terms.specs.Heads.{placeOf};
@@ -53,8 +53,7 @@ fn places_in(size: usize) -> usize
     all / size
 }
 
-// The pointer at distance d of the object at place j of page p, of term t under `to`, which leads to g; objects have this size. Where
-// there is no such place nothing is asked.
+// The pointer at distance d of the object at place j of page p, of term t under `to`, which leads to g; objects have this size.
 fn place_ok(
     f: &[u8],
     terms: usize,
@@ -70,12 +69,9 @@ fn place_ok(
     g: Target,
     j: usize,
 ) -> bool
-    requires { ⌜ Table (now f) terms structs (now tab) ⌝ ∗ ⌜ Narrow (now f) ⌝ ∗ ⌜ (p < pages) × (size ≤ 257) × (d ≤ 256) × (j < 256) × (TargetIs (now f) (now s) n to t g) ⌝ }
+    requires { ⌜ Table (now f) terms structs (now tab) ⌝ ∗ ⌜ Narrow (now f) ⌝ ∗ ⌜ (p < pages) × (d ≤ 256) × (size * suc j ≤ pageBytes) × (TargetIs (now f) (now s) n to t g) ⌝ }
     ensures { λ b. ⌜ Tells b (PlaceOk (now (f .entry)) (now (s .entry)) n p size to t d j) ⌝ }
 {
-    if size * (j + 1) > Machine::PAGE_BYTES as usize {
-        return true;
-    }
     let x = Machine::PAGE_BYTES * p + (size * j + d) as u32;
     pointer_ok(f, terms, structs, tab, s, n, to, t, g, x)
 }
@@ -94,7 +90,7 @@ fn places_ok(
     d: usize,
     g: Target,
 ) -> bool
-    requires { ⌜ Table (now f) terms structs (now tab) ⌝ ∗ ⌜ Narrow (now f) ⌝ ∗ ⌜ (p < pages) × (size ≤ 257) × (d ≤ 256) × (TargetIs (now f) (now s) n to t g) ⌝ }
+    requires { ⌜ Table (now f) terms structs (now tab) ⌝ ∗ ⌜ Narrow (now f) ⌝ ∗ ⌜ (p < pages) × (d ≤ 256) × (TargetIs (now f) (now s) n to t g) ⌝ }
     ensures { λ b. ⌜ Tells b ((j : ℕ) → j < pageBytes → PlaceOk (now (f .entry)) (now (s .entry)) n p size to t d j) ⌝ }
 {
     let many = places_in(size);

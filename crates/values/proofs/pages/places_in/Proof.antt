@@ -8,7 +8,7 @@ cast-all : tie.Need-cast-all
 cast-all c = search needs
 
 returns : tie.Need-returns
-returns c = places-all _
+returns c = places-all _ (c .if1 .taken)
 
 div-result : tie.Need-div-result
 div-result c = search needs

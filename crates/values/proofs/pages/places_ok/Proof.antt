@@ -22,7 +22,7 @@ loop-holds c = (omega arith, scan-none _)
 place-ok-requires : tie.Need-place-ok-requires Inv-loop μ-loop
 place-ok-requires c κs =
     let q = c .before .before .before .before .before .before .pre in
-    (q .0, (q .1 .0, (q .1 .1 .0, q .1 .1 .1, q .1 .1 .2, omega (arith, c .before .before .places-in .ensures .few), q .1 .1 .3)))
+    (q .0, (q .1 .0, (q .1 .1 .0, q .1 .1 .1, c .before .before .places-in .ensures .inside (c .before .loop .j) (c .loop-test .taken), q .1 .1 .2)))
 
 returns : tie.Need-returns Inv-loop μ-loop
 returns c = scan-broken _ _ _ (omega (arith, c .before .before .before .before .places-in .ensures .few)) (c .before .place-ok .ensures) (c .if1 .taken)

@@ -27,7 +27,7 @@ target-of-requires c κs =
 places-ok-requires : tie.Need-places-ok-requires
 places-ok-requires c κs =
     let q = c .before .before .before .before .before .before .before .before .before .before .pre .1 in
-    (q .0, (q .1 .0, (q .1 .1 .0, q .1 .1 .2 .small, c .before .before .before .before .before .place-prim .ensures .2, c .target-of .ensures)))
+    (q .0, (q .1 .0, (q .1 .1 .0, c .before .before .before .before .before .place-prim .ensures .2, c .target-of .ensures)))
 
 returns-2 : tie.Need-returns-2
 returns-2 c =
