@@ -8,19 +8,18 @@ use native.Mathlib.Omega.{arith}
 use lib.ListN.{length}
 use Rattle.words.specs.Bytes.{Bytes, AllBytes}
 use Rattle.words.specs.ByteLaws.{length-listOf}
-use Rattle.words.specs.Decide.{does}
 use Rattle.rules.specs.Limits.{pageBytes, mostRegions}
 use Rattle.rules.specs.Types.{variable, live, Variable, Region, Tree, int, ptr, arr, struct, form, inner, regionOf, width, sub}
 use Rattle.rules.specs.Module.{Module}
 use Rattle.rules.specs.Decode.{moduleOf}
 use Rattle.rules.specs.State.{view, pageOwner, memoryByte, memoryNumber, frameMap}
-use Rattle.rules.specs.Heap.{close, HeapTyping, Stands, decStands, Value}
+use Rattle.rules.specs.Heap.{HeapTyping, Stands, decStands, Value}
 use Rattle.state.specs.Reads.{memory-lt}
 use Rattle.terms.specs.Compare.{byteUnder, under, under-is}
 use Rattle.terms.specs.Readers.{Inner}
 use Rattle.runs.specs.Runs.{StandsIs}
 use Rattle.stack.specs.Tells.{Tells, tells-map, tells-yes, does-tells}
-use Rattle.objects.specs.Homes.{regionTree, HomeIs}
+use Rattle.objects.specs.Homes.{HomeIs}
 use Rattle.objects.specs.declared.Home.{Home}
 use Rattle.runs.specs.Maps.{Narrow, mapList, under-close}
 use Rattle.values.specs.Value.{typingOf}

@@ -1,6 +1,6 @@
 -- `values::pages::page_ok` meets its contract: by whether the page has an owner, and whether that is live. Assumes nothing.
 use native.Mathlib.Omega.{arith}
-use mathlib.Core.Path.{_≡_, ap, _∙_}
+use mathlib.Core.Path.{ap, _∙_}
 use Prim.Native.Nat.{ℕ, _-_}
 use Rattle.stack.specs.Tells.{tells-yes}
 use Rattle.values.specs.Pages.{page-none, page-dead, page-by}

@@ -1,7 +1,7 @@
 -- `values::pages::places_ok` meets its contract: every place before j is right. Assumes nothing.
 use borrow.Author.Needs.{needs}
 use native.Mathlib.Omega.{arith}
-use Prim.Native.Nat.{ℕ, _+_, _-_, _<_, _≤_}
+use Prim.Native.Nat.{ℕ, _-_, _<_, _≤_}
 use Rattle.stack.specs.Tells.{scan-none, scan-more, scan-broken}
 use Rattle.values.specs.Pages.{PlaceOk, places-ended}
 use Rattle.values.proofs.pages.places_ok.Statement.{statement}

@@ -1,7 +1,7 @@
 -- `values::pages::positions_ok` meets its contract: every position before i is right. Assumes nothing.
 use borrow.Author.Needs.{needs}
 use native.Mathlib.Omega.{arith}
-use Prim.Native.Nat.{ℕ, _+_, _-_, _<_, _≤_}
+use Prim.Native.Nat.{ℕ, _-_, _<_, _≤_}
 use Rattle.stack.specs.Tells.{scan-none, scan-more, scan-broken, scan-ended}
 use Rattle.values.specs.Pages.{PositionOk}
 use Rattle.values.proofs.pages.positions_ok.Statement.{statement}
