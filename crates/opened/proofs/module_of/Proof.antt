@@ -28,7 +28,7 @@ use denote.Ref.{RefT, NamedLft, now}
 use denote.Signature.{plain, namedLft}
 use denote.Slice.{sliceVal, ShrSlice, slice-vals, shr-slice-tells, shr-slice-lawful, shr-slice-copy}
 use denote.Steps.{peeks, heard, nothing}
-use denote.Struct.Declared.{Declared, shape}
+use denote.Struct.Declared.{Declared, fields, shape}
 use denote.Struct.Laws as LL
 use denote.Struct.Struct.{within}
 use denote.Triple.Statement.{Contract, Triple}
@@ -109,7 +109,7 @@ module _ {M : Type 1} (𝓤 : URA M) (H : Heap 𝓤) (A : Atoms 𝓤) (W : Given
   puts t u =
       qed W (‵ Own ∷ ‵ (S.the-row .own t (u ∷ [])) ∷ []) ∵
       nothing ! $ move ! (2 ∷ 0 ∷ []) $ fjoin ! $ move ! (1 ∷ 0 ∷ []) $ fjoin ! $ feqI ! (List Val) (mach u ∷ []) (mach u ∷ []) refl $ fjoin ! $
-      fpack ! (Valss (LL.fields D)) (within (shape D) (D .to (made t)) (mach u ∷ [])) (v ∷ [], (u ∷ [], tt)) $ done !
+      fpack ! (Valss (fields D)) (within (shape D) (D .to (made t)) (mach u ∷ [])) (v ∷ [], (u ∷ [], tt)) $ done !
 
   exits : (t : Tables) (u : Val) → t ≡ fileTables (now s) → ent 𝓤 (⋆ 𝓤 H A (‵ (S.the-row .own t (u ∷ [])) ∷ (‵ (flft κ q) ⊛ ‵ ftrue) ∷ ‵ Own ∷ [])) (Post (mach u))
   exits t u e =
