@@ -13,7 +13,7 @@ pub struct Module<'a> {
     pub tables: Tables,
 }
 
-// The struct of a file.
+// The struct of a file. Made once the verdict has accepted; of a refused file it is made too, and means as little as `moduleOf` does.
 pub fn module_of<'a>(file: &'a [u8]) -> Module<'a>
     ensures { λ m. ⌜ (m .file ≡ file .entry) × (m .tables ≡ tablesOf (now (file .entry))) ⌝ }
 {
@@ -21,7 +21,7 @@ pub fn module_of<'a>(file: &'a [u8]) -> Module<'a>
     Module { file, tables }
 }
 
-// The number of parameters of function g, by the tables.
+// The number of parameters of function g, by the tables: the covered function under the struct's reader.
 pub fn parameters_in(file: &[u8], tables: Tables, g: usize) -> usize
     requires { ⌜ (tables ≡ tablesOf (now file)) × (g < callees) ⌝ }
     ensures { λ n. ⌜ n ≡ moduleOf (now (file .entry)) .function g .params ⌝ }
