@@ -1,0 +1,2 @@
+-- What the tables of a file say of its module.
+pub mod Opened
