@@ -1,7 +1,22 @@
-/* Region-checked modules: the checker, for C.
+/* Region-checked modules, for C: the checker, opening, going on, the state test and the reader of states.
  *
- * Every call reads the buffers that it is lent and writes its answer. No pointer may be null, also where a length is 0; no buffer
- * shares a byte with another, the answer included; and nobody writes a lent buffer during a call. The promises hold only so.
+ * Buffers. Every call reads the buffers that it is lent, writes those that are not const, and keeps none. No buffer shares a byte with
+ * another, the answer included; nobody writes a lent buffer during a call; no pointer is null, also where a length is 0. The promises
+ * hold only so. Lengths and bytes are free otherwise: what does not fit is refused.
+ *
+ * Answers. Every call fills all four numbers of its answer; numbers that are not named below are 0. answer[0] is
+ *   0  refused, with [1] the refusal's number and [2] its place (for rcm_object: no object, and all numbers are 0)
+ *   1  accepted, opened, passed or found
+ *   2  ended, 3  stopped, 4  running (rcm_go alone)
+ * A refusal changes no byte of state or output. Refusals come in the order of their numbers:
+ *   1 to 8  the module, as rcm_check gives them; place: block for 2 and 3, record for 4 to 8, else 0
+ *   9       arguments that are not 4 bytes for each parameter of function 0 (rcm_open), a form over RCM_FORM_MAX bytes (rcm_go)
+ *   20      a state that is not RCM_STATE_BYTES long, or an output that is not RCM_OUTPUT_BYTES long (rcm_go)
+ *   21      a state that fails the state test for this module
+ *   22      a state whose module has already ended or stopped
+ *
+ * A state is RCM_STATE_BYTES bytes, laid out in docs/STATE.md. Between calls it may be copied, stored and moved to another machine of
+ * either byte order: rcm_go and rcm_test trust none of its bytes.
  */
 #ifndef RCM_H
 #define RCM_H
@@ -13,11 +28,47 @@
 extern "C" {
 #endif
 
+#define RCM_STATE_BYTES 24576
+#define RCM_OUTPUT_BYTES 4096
+#define RCM_FORM_MAX 4096
+
 /* The verdict on a module file of any length and any bytes.
- *   answer[0] = 1  accepted: [1] terms, [2] names, [3] functions * 65536 + instructions
- *   answer[0] = 0  refused:  [1] the refusal's number (1 to 8), [2] its place (block for 2 and 3, record for 4 to 8, else 0), [3] 0
+ *   [0] = 1  accepted: [1] terms, [2] names, [3] functions * 65536 + instructions
+ *   [0] = 0  refused:  1 to 8
  */
 void rcm_check(const uint8_t *file, size_t file_len, uint64_t answer[4]);
+
+/* Opening: the state becomes that of function 0 at its first instruction, with its arguments (4 bytes each, little-endian). No byte of
+ * the old state is looked at.
+ *   [0] = 1  opened
+ *   [0] = 0  refused: 1 to 9, 20
+ */
+void rcm_open(const uint8_t *file, size_t file_len, const uint8_t *arguments, size_t arguments_len, uint8_t *state, size_t state_len,
+              uint64_t answer[4]);
+
+/* Going on from the state for at most budget steps, with this form, and with the output as the last call left it (its first bytes are
+ * what the module has written; how many stands in bytes 2 and 3 of the state).
+ *   [0] = 2  ended:   [1] the module's value, [2] the steps of this call
+ *   [0] = 3  stopped: [1] the reason, [2] the steps of this call, the one that stopped included. 31 zero address, 32 a check of an
+ *            address failed (kind 22), 33 index not below the count, 34 no page, 35 call with 16 frames, 36 zero divisor or signed
+ *            quotient out of range, 37 shift by the width or more, 38 form ended, 39 output full
+ *   [0] = 4  running: [2] the steps of this call, which are the whole budget
+ *   [0] = 0  refused: 1 to 9, 20, 21, 22
+ */
+void rcm_go(const uint8_t *file, size_t file_len, const uint8_t *form, size_t form_len, uint8_t *state, size_t state_len, uint8_t *output,
+            size_t output_len, uint64_t budget, uint64_t answer[4]);
+
+/* The state test: whether rcm_go would take the state for this module, up to 22.
+ *   [0] = 1  passed
+ *   [0] = 0  refused: 1 to 8, 20, 21
+ */
+void rcm_test(const uint8_t *file, size_t file_len, const uint8_t *state, size_t state_len, uint64_t answer[4]);
+
+/* The object around an address of the module's memory, used or free; the address may lie inside it.
+ *   [0] = 1  found: [1] the offset in the state of the object's first byte, [2] its size
+ *   [0] = 0  no object lies there, or module or state is refused
+ */
+void rcm_object(const uint8_t *file, size_t file_len, const uint8_t *state, size_t state_len, uint32_t address, uint64_t answer[4]);
 
 #ifdef __cplusplus
 }
