@@ -18,12 +18,8 @@ use Rattle.host.specs.declared.open.Opened.the-variants as openings
 use Rattle.host.specs.declared.go.Went.{Went}
 use Rattle.host.specs.declared.go.Went.the-variants as answers
 use Rattle.lines.specs.Lines.{verdictLine, refusedLine, wentLine, programBudget, secondLine, printed}
-use Rattle.lines.specs.Writing.{Puts}
+use Rattle.lines.specs.Writing.{Puts, puts-length}
 use Rattle.lines.specs.Cases.{refused-alone}
-
--- the bytes lent for the text
-abbrev pub reportBytes : ℕ
-reportBytes = 256
 
 -- ---- the second line
 
@@ -61,7 +57,7 @@ pub printed-refused : (f form : Bytes) {v : Verdict} {n p : ℕ} → v ≡ verdi
 printed-refused f form e d = refused-alone f form (sym e ∙ d) ∙ ap verdictLine (sym d)
 
 -- a text that was put at the start is what a reader takes from there
-pub puts-start : {s t text : Bytes} {r : ℕ} → Puts s t 0 r text → r ≤ length s → take r t ≡ text
+pub puts-start : {s t text : Bytes} {r : ℕ} → Puts s t 0 r text → r ≤ length s → (take r t ≡ text) × (r ≤ length t)
 puts-start {s} {t} {text} {r} p h =
     let e : r ≡ length text = p .end ∙ (let z : 0 + length text ≡ length text = omega arith in z) in
-    ap (λ (n : ℕ). take n t) e ∙ ap (take (length text)) (p .is) ∙ part-splice s 0 text (omega arith)
+    (ap (λ (n : ℕ). take n t) e ∙ ap (take (length text)) (p .is) ∙ part-splice s 0 text (omega arith), rw (puts-length p) h)

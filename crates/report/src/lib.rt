@@ -8,7 +8,7 @@ ghost use Rattle.rules.specs.Limits.{stateBytes};
 ghost use Rattle.rules.specs.Host.{openOf};
 ghost use Rattle.lines.specs.Lines.{secondLine, printed};
 ghost use Rattle.lines.specs.Writing.{Puts, mostLine};
-ghost use Rattle.report.specs.Report.{answerLine, reportBytes};
+ghost use Rattle.report.specs.Report.{answerLine};
 use host::go::Went;
 use host::go::go;
 use host::open::Opened;
@@ -59,7 +59,7 @@ fn second_line(file: &[u8], form: &[u8], out: &mut [u8], at: usize) -> usize
 
 // The text, from the start of `out` on, and its length.
 pub fn report(file: &[u8], form: &[u8], out: &mut [u8; REPORT_BYTES]) -> usize
-    ensures { λ r. ⌜ (take r (now (out .exit)) ≡ printed (now (file .entry)) (now (form .entry))) × (r ≤ reportBytes) ⌝ }
+    ensures { λ r. ⌜ (take r (now (out .exit)) ≡ printed (now (file .entry)) (now (form .entry))) × (r ≤ length (now (out .exit))) ⌝ }
 {
     let v = checker::verdict(file);
     let n = verdict_line(out, 0, v);

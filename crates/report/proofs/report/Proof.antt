@@ -1,5 +1,4 @@
 -- `report` meets its contract: the verdict's line, and of an accepted module the second behind it.
-use mathlib.Core.Path.{sym, _∙_}
 use native.Mathlib.Omega.{arith}
 use denote.Ref.{now}
 use Rattle.lines.specs.Writing.{puts-then}
@@ -27,18 +26,14 @@ returns : tie.Need-returns
 returns c =
     let a = c .before .before .before .before .before .before .before .before .before .args in
     let v = c .before .before .before .before .verdict-line .ensures in
-    let w = c .second-line .ensures in (
-      puts-start (puts-then (v .0) (w .0)) (omega arith) ∙ sym (printed-accepted (now (a .file)) (now (a .form)) (c .before .before .before .before .before .before .verdict .ensures) (c .before .before .enum-told .given .1)),
-      omega arith,
-    )
+    let w = c .second-line .ensures in
+    rw (printed-accepted (now (a .file)) (now (a .form)) (c .before .before .before .before .before .before .verdict .ensures) (c .before .before .enum-told .given .1)) (puts-start (puts-then (v .0) (w .0)) (omega arith))
 
 returns-2 : tie.Need-returns-2
 returns-2 c =
     let a = c .before .before .before .before .before .before .before .args in
-    let v = c .before .before .verdict-line .ensures in (
-      puts-start (v .0) (omega arith) ∙ sym (printed-refused (now (a .file)) (now (a .form)) (c .before .before .before .before .verdict .ensures) (c .enum-told2 .given .1)),
-      omega arith,
-    )
+    let v = c .before .before .verdict-line .ensures in
+    rw (printed-refused (now (a .file)) (now (a .form)) (c .before .before .before .before .verdict .ensures) (c .enum-told2 .given .1)) (puts-start (v .0) (omega arith))
 
 pub report-spec : {M : Type 1} → statement M
 report-spec =
