@@ -13,7 +13,7 @@ enum { STATE_BYTES = 24576, OUTPUT_BYTES = 4096, BLOCK = 512, CHECK_AT = 508 };
 
 enum { REFUSED = 0, GOOD = 1, RUNNING = 4 };
 
-__attribute__((section("__libfuzzer_extra_counters"))) static uint8_t counters[1 << 16];
+__attribute__((used, section("__libfuzzer_extra_counters"))) static volatile uint8_t counters[1 << 16];
 
 static void seen(uint64_t what, uint64_t first, uint64_t second)
 {

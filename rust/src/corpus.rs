@@ -160,6 +160,23 @@ pub fn case_files(folder: &Path) -> Vec<PathBuf> {
     files
 }
 
+/// The modules of all files of cases in a folder, with the name of each case.
+pub fn modules(folder: &Path) -> Vec<(String, Vec<u8>)> {
+    let mut found = Vec::new();
+    for path in case_files(folder) {
+        let text = std::fs::read_to_string(&path).expect("a file of cases can be read");
+        let mut name = "";
+        for line in text.lines() {
+            if let Some(rest) = line.strip_prefix("case ") {
+                name = rest;
+            } else if let Some(digits) = line.strip_prefix("module ") {
+                found.push((name.to_string(), unhex(digits).expect("a module in hex")));
+            }
+        }
+    }
+    found
+}
+
 /// Runs all files of cases in a folder.
 pub fn run_folder(folder: &Path) -> std::io::Result<Report> {
     let mut total = Report::default();

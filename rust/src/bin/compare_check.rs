@@ -4,7 +4,7 @@
 //! Built with the feature `librcm` and the folder of `librcm.a` in RCM_LIB_DIR.
 
 use reference::compare::Interface;
-use reference::corpus::case_files;
+use reference::corpus::modules;
 use reference::damage::damage;
 use reference::generator::draw;
 use reference::host::{self, Answer};
@@ -20,25 +20,6 @@ fn verdict(answer: Answer) -> String {
         host::REFUSED => format!("refused {}", answer[1]),
         _ => "accepted".to_string(),
     }
-}
-
-/// The modules of all corpus files in a folder, with the name of each case.
-fn corpus_modules(folder: &PathBuf) -> Vec<(String, Vec<u8>)> {
-    let mut found = Vec::new();
-    for path in case_files(folder) {
-        let text = std::fs::read_to_string(&path).expect("a corpus file can be read");
-        let mut name = String::new();
-        for line in text.lines() {
-            if let Some(rest) = line.strip_prefix("case ") {
-                name = rest.to_string();
-            } else if let Some(hex) = line.strip_prefix("module ") {
-                let digits = if hex == "-" { "" } else { hex };
-                let byte = |i| u8::from_str_radix(&digits[i..i + 2], 16).expect("hex");
-                found.push((name.clone(), (0..digits.len()).step_by(2).map(byte).collect()));
-            }
-        }
-    }
-    found
 }
 
 fn main() -> ExitCode {
@@ -62,7 +43,7 @@ fn main() -> ExitCode {
         }
         *counts.entry(verdict(here)).or_default() += 1;
     };
-    let corpus = corpus_modules(&folder);
+    let corpus = modules(&folder);
     for (name, file) in &corpus {
         compare(name, file);
     }
