@@ -15,8 +15,7 @@
  *   21      a state that fails the state test for this module
  *   22      a state whose module has already ended or stopped
  *
- * A state is RCM_STATE_BYTES bytes, laid out in docs/STATE.md. Between calls it may be copied, stored and moved to another machine of
- * either byte order: rcm_go and rcm_test trust none of its bytes.
+ * A state is RCM_STATE_BYTES bytes, laid out in docs/STATE.md. Between calls it may be copied and stored: no call trusts its bytes.
  */
 #ifndef RCM_H
 #define RCM_H
@@ -46,8 +45,8 @@ void rcm_check(const uint8_t *file, size_t file_len, uint64_t answer[4]);
 void rcm_open(const uint8_t *file, size_t file_len, const uint8_t *arguments, size_t arguments_len, uint8_t *state, size_t state_len,
               uint64_t answer[4]);
 
-/* Going on from the state for at most budget steps, with this form, and with the output as the last call left it (its first bytes are
- * what the module has written; how many stands in bytes 2 and 3 of the state).
+/* Going on from the state for at most budget steps, with this form. What the module emits goes into the output, behind what it emitted in
+ * earlier calls (how much stands in bytes 2 and 3 of the state, little-endian); the other bytes of the output stay as they are.
  *   [0] = 2  ended:   [1] the module's value, [2] the steps of this call
  *   [0] = 3  stopped: [1] the reason, [2] the steps of this call, the one that stopped included. 31 zero address, 32 a check of an
  *            address failed (kind 22), 33 index not below the count, 34 no page, 35 call with 16 frames, 36 zero divisor or signed

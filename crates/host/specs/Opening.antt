@@ -1,7 +1,7 @@
 -- Opening's answer as rules' `Opened`, and `openOf` case by case, as the code goes. Assumes nothing.
 use mathlib.Core.Path.{_≡_, refl, sym, ap, _∙_, subst}
 use mathlib.Core.Logic.{_≢_}
-use Prim.Native.Nat.{ℕ, _*_, _<_, _≤_}
+use Prim.Native.Nat.{ℕ, _*_, _≤_}
 use native.Mathlib.Omega.{arith}
 use lib.Dec.{eqb}
 use lib.ListN.{length}
@@ -71,12 +71,12 @@ module _ (f xs s : Bytes) where
 -- ---- the contract from the answer
 
 -- the answer is o, and t is what it leaves of s
-pub record LeftBy (r : Opened) (s t : Bytes) (o : rules.Opened) : Type 0 where
+pub record OpenedBy (r : Opened) (s t : Bytes) (o : rules.Opened) : Type 0 where
   pub answer : openedMeant r t ≡ o
   pub left : t ≡ rules.leftOpened o s
 
-pub left-refused : {n p : ℕ} {s t : Bytes} {o : rules.Opened} → t ≡ s → rules.notOpened n p ≡ o → LeftBy (answers.Refused n p) s t o
-left-refused {n} {p} {s} {t} e d = subst (λ (o : rules.Opened). LeftBy (answers.Refused n p) s t o) d (record { answer = refl; left = e })
+pub opened-refused : {n p : ℕ} {s t : Bytes} {o : rules.Opened} → t ≡ s → rules.notOpened n p ≡ o → OpenedBy (answers.Refused n p) s t o
+opened-refused {n} {p} {s} {t} e d = subst (λ (o : rules.Opened). OpenedBy (answers.Refused n p) s t o) d (record { answer = refl; left = e })
 
-pub left-opened : {s t u : Bytes} {o : rules.Opened} → t ≡ u → rules.opened u ≡ o → LeftBy answers.Opened s t o
-left-opened {s} {t} {u} e d = subst (λ (o : rules.Opened). LeftBy answers.Opened s t o) d (record { answer = ap rules.opened e; left = e })
+pub opened-made : {s t u : Bytes} {o : rules.Opened} → t ≡ u → rules.opened u ≡ o → OpenedBy answers.Opened s t o
+opened-made {s} {t} {u} e d = subst (λ (o : rules.Opened). OpenedBy answers.Opened s t o) d (record { answer = ap rules.opened e; left = e })

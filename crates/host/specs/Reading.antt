@@ -3,7 +3,7 @@ use mathlib.Core.Path.{_≡_, refl, sym, ap, _∙_, subst}
 use mathlib.Core.Logic.{_≢_}
 use mathlib.Core.List.{[]}
 use mathlib.Core.Bool.{Bool, true, false, cond}
-use Prim.Native.Nat.{ℕ, zero, suc, _+_, _-_, _/_, _<_, _≤_}
+use Prim.Native.Nat.{ℕ, _+_, _-_, _/_, _<_, _≤_}
 use native.Mathlib.Nat.{not-suc-le-zero}
 use native.Mathlib.Omega.{arith}
 use lib.ListN.{length, take, drop}
@@ -26,9 +26,6 @@ use Rattle.host.specs.declared.object.Part.{Part}
 
 abbrev pub partMeant : Part → rules.Part
 partMeant p = record { offset = p .offset; size = p .size }
-
-abbrev pub noPart : Part
-noPart = record { offset = 0; size = 0 }
 
 module _ (f s : Bytes) (a : ℕ) where
   pub object-refused : {v : Verdict} {n p : ℕ} → v ≡ verdictOf f → v ≡ verdicts.Refused n p → rules.emptyPart ≡ rules.objectOf f s a

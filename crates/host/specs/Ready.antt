@@ -1,5 +1,5 @@
 -- What a call finds of an accepted file once, and hands to the code that reads types and functions. Assumes nothing.
-use mathlib.Core.Path.{_≡_, refl, ap}
+use mathlib.Core.Path.{_≡_}
 use mathlib.Core.List.{List}
 use Prim.Native.Nat.{ℕ}
 use Rattle.words.specs.Bytes.{Bytes}

@@ -5,7 +5,7 @@ use Rattle.words.specs.Bytes.{Bytes}
 use Rattle.rules.specs.Verdict.{verdictOf, IsAccepted}
 use Rattle.rules.specs.Host.{onVerdict}
 use Rattle.rules.specs.declared.Verdict.{Verdict}
-use Rattle.rules.specs.declared.Verdict.the-variants.{Accepted, Refused}
+use Rattle.rules.specs.declared.Verdict.the-variants.{Refused}
 use Rattle.typing.specs.Accepted.{counts}
 
 module _ {B : Type 0} (refuse : ℕ → ℕ → B) (f : Bytes) (b : B) where

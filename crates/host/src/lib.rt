@@ -3,5 +3,5 @@
 pub mod go;
 pub mod object;
 pub mod open;
-pub mod tables;
+mod tables;
 pub mod test;

@@ -7,7 +7,7 @@ ghost use Rattle.rules.specs.Verdict.{verdictOf, IsAccepted};
 ghost use Rattle.rules.specs.Host.{openOf};
 ghost use Rattle.frames.specs.Entered.{putRegisters, putRegions};
 ghost use Rattle.host.specs.First.{argumentsOf, itself, firstOf};
-ghost use Rattle.host.specs.Opening.{LeftBy};
+ghost use Rattle.host.specs.Opening.{OpenedBy};
 use rules::Verdict;
 use state::LiveRegion;
 use state::Machine;
@@ -63,7 +63,7 @@ fn first_state(arguments: &[u8], s: &mut [u8], params: usize, locals: u32)
 // Of an accepted module: the arguments first, then the state's length.
 fn open_accepted(file: &[u8], arguments: &[u8], s: &mut [u8]) -> Opened
     requires { ⌜ IsAccepted (verdictOf (now file)) ⌝ }
-    ensures { λ r. ⌜ LeftBy r (now (s .entry)) (now (s .exit)) (openOf (now (file .entry)) (now (arguments .entry)) (now (s .entry))) ⌝ }
+    ensures { λ r. ⌜ OpenedBy r (now (s .entry)) (now (s .exit)) (openOf (now (file .entry)) (now (arguments .entry)) (now (s .entry))) ⌝ }
 {
     let t = walk::tables::tables_of(file);
     let starts = t.starts;
@@ -87,7 +87,7 @@ fn open_accepted(file: &[u8], arguments: &[u8], s: &mut [u8]) -> Opened
 
 // Opening. It looks at no byte of the old state.
 pub fn open(file: &[u8], arguments: &[u8], s: &mut [u8]) -> Opened
-    ensures { λ r. ⌜ LeftBy r (now (s .entry)) (now (s .exit)) (openOf (now (file .entry)) (now (arguments .entry)) (now (s .entry))) ⌝ }
+    ensures { λ r. ⌜ OpenedBy r (now (s .entry)) (now (s .exit)) (openOf (now (file .entry)) (now (arguments .entry)) (now (s .entry))) ⌝ }
 {
     let v = checker::verdict(file);
     match v {

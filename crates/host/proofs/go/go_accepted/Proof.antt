@@ -1,12 +1,13 @@
 -- `host::go::go_accepted` meets its contract: rules' order of refusals.
 use mathlib.Core.Path.{refl}
+use native.Mathlib.Omega.{arith}
 use Rattle.host.specs.Going.{lengths, go-form, go-length, went-refused}
 use borrow.Author.Needs.{needs}
 use Rattle.host.proofs.go.go_accepted.Statement.{statement}
 use Rattle.host.proofs.go.go_accepted.Tie as tie
 
 returns : tie.Need-returns
-returns c = went-refused refl refl (go-form _ _ _ _ _ (c .before .before .before .before .before .pre) (c .if1 .taken))
+returns c = went-refused refl refl (go-form _ _ _ _ _ (c .before .before .before .before .before .pre) (omega (arith, c .if1 .taken)))
 
 go-tested-requires : tie.Need-go-tested-requires
 go-tested-requires c κs = (c .before .before .before .before .before .before .before .before .pre, (c .before .before .before .if1 .left, lengths (c .before .before .before .before .before .before .before .before .args .s .now) (c .before .before .before .before .before .before .before .before .args .o .now) (c .before .before .if2 .taken) .0, lengths (c .before .before .before .before .before .before .before .before .args .s .now) (c .before .before .before .before .before .before .before .before .args .o .now) (c .before .before .if2 .taken) .1))

@@ -1,5 +1,5 @@
 -- `host::go::go_tested` meets its contract: the state test, then the status.
-use mathlib.Core.Path.{_≡_, refl, sym, _∙_}
+use mathlib.Core.Path.{refl, sym, _∙_}
 use Rattle.host.specs.Going.{tested, go-failed, go-over, went-refused}
 use borrow.Author.Needs.{needs}
 use Rattle.host.proofs.go.go_tested.Statement.{statement}

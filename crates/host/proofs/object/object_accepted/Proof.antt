@@ -1,5 +1,4 @@
 -- `host::object::object_accepted` meets its contract: the reader of tested states, behind the state test.
-use mathlib.Core.Path.{_≡_}
 use Rattle.host.specs.Reading.{object-failed, object-read}
 use borrow.Author.Needs.{needs}
 use Rattle.host.proofs.object.object_accepted.Statement.{statement}

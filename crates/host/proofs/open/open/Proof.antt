@@ -1,7 +1,7 @@
 -- `host::open::open` meets its contract: the verdict first.
 use mathlib.Core.Path.{refl}
 use Rattle.guarantees.specs.Accepted.{says-accepted}
-use Rattle.host.specs.Opening.{open-refused, left-refused}
+use Rattle.host.specs.Opening.{open-refused, opened-refused}
 use borrow.Author.Needs.{needs}
 use Rattle.host.proofs.open.open.Statement.{statement}
 use Rattle.host.proofs.open.open.Tie as tie
@@ -25,7 +25,7 @@ returns : tie.Need-returns
 returns c = search needs
 
 returns-2 : tie.Need-returns-2
-returns-2 c = left-refused refl (open-refused _ _ _ (c .before .before .before .verdict .ensures) (c .before .v .given .1))
+returns-2 c = opened-refused refl (open-refused _ _ _ (c .before .before .before .verdict .ensures) (c .before .v .given .1))
 
 pub open-spec : {M : Type 1} → statement M
 open-spec =

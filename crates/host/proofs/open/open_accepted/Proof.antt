@@ -1,10 +1,10 @@
 -- `host::open::open_accepted` meets its contract: rules' order of refusals, and then the first state.
-use mathlib.Core.Path.{_≡_, refl, sym, ap, _∙_}
+use mathlib.Core.Path.{refl, ap, _∙_}
 use native.Mathlib.Omega.{arith}
 use Rattle.walk.specs.declared.tables.Tables.{Tables}
 use Rattle.walk.specs.Tables.{tables-starts}
 use Rattle.host.specs.First.{first-of}
-use Rattle.host.specs.Opening.{params-are, locals-are, params-few, locals-few, open-arguments, open-length, open-opened, left-refused, left-opened}
+use Rattle.host.specs.Opening.{params-are, locals-are, params-few, locals-few, open-arguments, open-length, open-opened, opened-refused, opened-made}
 use borrow.Author.Needs.{needs}
 use Rattle.host.proofs.open.open_accepted.Statement.{statement}
 use Rattle.host.proofs.open.open_accepted.Tie as tie
@@ -22,10 +22,10 @@ mul-if1 : tie.Need-mul-if1
 mul-if1 c = search needs
 
 returns : tie.Need-returns
-returns c = left-refused refl (open-arguments _ _ _ (c .before .before .before .before .before .before .before .before .before .pre) (params-are _ (c .before .before .head-of .ensures) (c .before .parameters-of .ensures)) (c .if1 .taken))
+returns c = opened-refused refl (open-arguments _ _ _ (c .before .before .before .before .before .before .before .before .before .pre) (params-are _ (c .before .before .head-of .ensures) (c .before .parameters-of .ensures)) (c .if1 .taken))
 
 returns-2 : tie.Need-returns-2
-returns-2 c = left-refused refl (open-length _ _ _ (c .before .before .before .before .before .before .before .before .before .before .pre) (params-are _ (c .before .before .before .head-of .ensures) (c .before .before .parameters-of .ensures)) (c .before .if1 .left) (c .if2 .taken))
+returns-2 c = opened-refused refl (open-length _ _ _ (c .before .before .before .before .before .before .before .before .before .before .pre) (params-are _ (c .before .before .before .head-of .ensures) (c .before .before .parameters-of .ensures)) (c .before .if1 .left) (c .if2 .taken))
 
 wide-requires : tie.Need-wide-requires
 wide-requires c κs = search needs
@@ -37,7 +37,7 @@ same-length : tie.Need-same-length
 same-length c = search needs
 
 returns-3 : tie.Need-returns-3
-returns-3 c = left-opened (c .before .before .first-state .ensures ∙ first-of _ _ (params-are _ (c .before .before .before .before .before .before .before .before .head-of .ensures) (c .before .before .before .before .before .before .before .parameters-of .ensures)) (locals-are _ (c .before .before .before .before .before .before .before .before .head-of .ensures) (c .before .before .before .wide .ensures .0))) (open-opened _ _ _ (c .before .before .before .before .before .before .before .before .before .before .before .before .before .before .before .pre) (params-are _ (c .before .before .before .before .before .before .before .before .head-of .ensures) (c .before .before .before .before .before .before .before .parameters-of .ensures)) (c .before .before .before .before .before .before .if1 .left) (c .before .before .before .before .before .if2 .left))
+returns-3 c = opened-made (c .before .before .first-state .ensures ∙ first-of _ _ (params-are _ (c .before .before .before .before .before .before .before .before .head-of .ensures) (c .before .before .before .before .before .before .before .parameters-of .ensures)) (locals-are _ (c .before .before .before .before .before .before .before .before .head-of .ensures) (c .before .before .before .wide .ensures .0))) (open-opened _ _ _ (c .before .before .before .before .before .before .before .before .before .before .before .before .before .before .before .pre) (params-are _ (c .before .before .before .before .before .before .before .before .head-of .ensures) (c .before .before .before .before .before .before .before .parameters-of .ensures)) (c .before .before .before .before .before .before .if1 .left) (c .before .before .before .before .before .if2 .left))
 
 pub open-accepted-spec : {M : Type 1} → statement M
 open-accepted-spec =
