@@ -4,7 +4,7 @@ ghost use Rattle.io.specs.Counts.{Counts};
 use libc::STDOUT_FILENO;
 use report::REPORT_BYTES;
 
-// One byte more than a file or a form may have: of a longer one that many are enough to refuse it.
+// One byte more than a module or a form may have: of a longer one no more is needed (`enough` in report's specs/Enough.antt).
 const FILE_BUFFER: usize = 32769;
 
 const FORM_BUFFER: usize = 4097;
@@ -21,6 +21,7 @@ fn ends(fd: i32) -> bool {
     libc::read(fd, &mut next) == 0
 }
 
+// Of an open file, which it closes.
 fn read_open(fd: i32, name: &[u8], buf: &mut [u8]) -> Got
     ensures { λ r. ⌜ Counts (r .count) (now (buf .exit)) ⌝ }
 {
@@ -48,6 +49,7 @@ fn read(name: &[u8], buf: &mut [u8]) -> Got
     read_open(fd, name, buf)
 }
 
+// The lines, or a message where they cannot be written.
 fn print(file: &[u8], form: &[u8]) {
     let mut text = [0u8; REPORT_BYTES];
     let n = report::report(file, form, &mut text);
