@@ -4,7 +4,7 @@ ghost use Rattle.io.specs.Counts.{Counts};
 use libc::STDOUT_FILENO;
 use report::REPORT_BYTES;
 
-// One byte more than a file or a form may have: of a longer one that many are enough to refuse it.
+// One byte more than a module or a form may have: of a longer one no more is needed (`enough` in report's specs/Enough.antt).
 const FILE_BUFFER: usize = 32769;
 
 const FORM_BUFFER: usize = 4097;
@@ -15,17 +15,13 @@ struct Got {
     is_whole: bool,
 }
 
-// Whether the file ends here: reading on fails where the reading before failed.
-fn ends(fd: i32) -> bool {
-    let mut next = [0u8; 1];
-    libc::read(fd, &mut next) == 0
-}
-
+// Of an open file, which it closes. Reading on at its end gives nothing; where the reading before failed it fails.
 fn read_open(fd: i32, name: &[u8], buf: &mut [u8]) -> Got
     ensures { λ r. ⌜ Counts (r .count) (now (buf .exit)) ⌝ }
 {
     let count = io::read_full(fd, buf);
-    let is_whole = count == buf.len() || ends(fd);
+    let mut next = [0u8; 1];
+    let is_whole = count == buf.len() || libc::read(fd, &mut next) == 0;
     if !is_whole {
         os::fail(name);
     }
@@ -48,29 +44,18 @@ fn read(name: &[u8], buf: &mut [u8]) -> Got
     read_open(fd, name, buf)
 }
 
-fn print(file: &[u8], form: &[u8]) {
-    let mut text = [0u8; REPORT_BYTES];
-    let n = report::report(file, form, &mut text);
-    if !io::write_all(STDOUT_FILENO, &text[..n]) {
-        os::fail(b"standard output");
-    }
-}
-
-// With the module read.
-fn with_form(file: &[u8]) {
-    let mut form = [0u8; FORM_BUFFER];
-    let r = read(b"form", &mut form);
-    let n = r.count;
-    if r.is_whole {
-        print(file, &form[..n]);
-    }
-}
-
 fn main() {
     let mut file = [0u8; FILE_BUFFER];
-    let r = read(b"module", &mut file);
-    let n = r.count;
-    if r.is_whole {
-        with_form(&file[..n]);
+    let mut form = [0u8; FORM_BUFFER];
+    let mut text = [0u8; REPORT_BYTES];
+    let module = read(b"module", &mut file);
+    let input = read(b"form", &mut form);
+    let n = module.count;
+    let k = input.count;
+    if module.is_whole & input.is_whole {
+        let end = report::report(&file[..n], &form[..k], &mut text);
+        if !io::write_all(STDOUT_FILENO, &text[..end]) {
+            os::fail(b"standard output");
+        }
     }
 }

@@ -1,2 +1,3 @@
--- The program as a function: the second line by the answers of opening and going on, and the text in the bytes lent for it.
+-- The program as a function: its lines by the code's answers, the text in the bytes lent for it, and how much of a file it must read.
 pub mod Report
+pub mod Enough

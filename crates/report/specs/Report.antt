@@ -4,7 +4,7 @@ use mathlib.Core.List.{[], _++_}
 use Prim.Native.Nat.{ℕ, _+_, _≤_}
 use native.Mathlib.Omega.{arith}
 use lib.ListN.{length, take, replicate}
-use Rattle.words.specs.Bytes.{Bytes, splice}
+use Rattle.words.specs.Bytes.{Bytes}
 use Rattle.words.specs.ByteLaws.{part-splice}
 use Rattle.rules.specs.Limits.{stateBytes, outputBytes}
 use Rattle.rules.specs.Verdict.{verdictOf}
