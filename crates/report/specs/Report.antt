@@ -11,7 +11,7 @@ use Rattle.rules.specs.Verdict.{verdictOf}
 use Rattle.rules.specs.Host as rules
 use Rattle.rules.specs.declared.Verdict.{Verdict}
 use Rattle.rules.specs.declared.Verdict.the-variants as verdicts
-use Rattle.host.specs.Opening.{openedMeant, LeftBy}
+use Rattle.host.specs.Opening.{openedMeant, OpenedBy}
 use Rattle.host.specs.Going.{wentMeant, WentBy}
 use Rattle.host.specs.declared.open.Opened.{Opened}
 use Rattle.host.specs.declared.open.Opened.the-variants as openings
@@ -33,7 +33,7 @@ answer-line (answers.Ended x n) t u = refl
 answer-line (answers.Stopped i n) t u = refl
 answer-line (answers.Running n) t u = refl
 
-module _ (f form : Bytes) {r : Opened} {t : Bytes} (l : LeftBy r (replicate stateBytes 0) t (rules.openOf f [] (replicate stateBytes 0))) where
+module _ (f form : Bytes) {r : Opened} {t : Bytes} (l : OpenedBy r (replicate stateBytes 0) t (rules.openOf f [] (replicate stateBytes 0))) where
   pub second-refused : {n p : ℕ} → r ≡ openings.Refused n p → secondLine f form (rules.openOf f [] (replicate stateBytes 0)) ≡ refusedLine n p
   unfolding secondLine
   second-refused e = ap (secondLine f form) (sym (l .answer) ∙ ap (λ (x : Opened). openedMeant x t) e)
