@@ -4,9 +4,9 @@
 #include <stdio.h>
 #include <stdlib.h>
 
-enum { MOST_FILE = 64 * 512, MOST_FORM = 4096, STATE_BYTES = 24576, OUTPUT_BYTES = 4096 };
+enum { MOST_FILE = 64 * 512 };
 
-static uint8_t file[MOST_FILE + 1], form[MOST_FORM + 1], state[STATE_BYTES], output[OUTPUT_BYTES], none[1];
+static uint8_t file[MOST_FILE + 1], form[RCM_FORM_MAX + 1], state[RCM_STATE_BYTES], output[RCM_OUTPUT_BYTES], none[1];
 
 static size_t read_file(const char *name, uint8_t *into, size_t most)
 {

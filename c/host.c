@@ -13,9 +13,6 @@
 
 enum {
     MOST_FILE = 64 * 512,
-    MOST_FORM = 4096,
-    STATE_BYTES = 24576,
-    OUTPUT_BYTES = 4096,
     MEMORY_AT = 8192,
     MEMORY_BYTES = 16384
 };
@@ -109,7 +106,7 @@ static void refused(struct buffer file, struct buffer form, struct buffer state,
 /* Refusals 9, 20 and 21 of going on, from a good state. */
 static void refusals(struct buffer file, struct buffer form, struct buffer state, struct buffer output)
 {
-    struct buffer long_form = buffer_of(MOST_FORM + 1, 0);
+    struct buffer long_form = buffer_of(RCM_FORM_MAX + 1, 0);
     struct buffer short_output = { output.bytes, output.length - 1 };
     struct buffer short_state = { state.bytes, state.length - 1 };
     struct buffer bad_state = copy_of(state);
@@ -133,7 +130,7 @@ static uint64_t inspect(struct buffer file, struct buffer state)
             continue;
         uint64_t at = MEMORY_AT + (uint64_t)address;
         expect(answer[1] <= at && at < answer[1] + answer[2], "the part of an address");
-        expect(MEMORY_AT <= answer[1] && answer[1] + answer[2] <= STATE_BYTES, "a part of the pages");
+        expect(MEMORY_AT <= answer[1] && answer[1] + answer[2] <= RCM_STATE_BYTES, "a part of the pages");
         found++;
     }
     return found;
@@ -205,10 +202,10 @@ int main(int argc, char **argv)
     }
     uint64_t answer[4];
     struct buffer file = read_file(argv[1], MOST_FILE);
-    struct buffer form = read_file(argv[2], MOST_FORM);
+    struct buffer form = read_file(argv[2], RCM_FORM_MAX);
     struct buffer none = buffer_of(0, 0);
-    struct buffer state = buffer_of(STATE_BYTES, 0xa5);
-    struct buffer output = buffer_of(OUTPUT_BYTES, 0);
+    struct buffer state = buffer_of(RCM_STATE_BYTES, 0xa5);
+    struct buffer output = buffer_of(RCM_OUTPUT_BYTES, 0);
     rcm_check(file.bytes, file.length, answer);
     if (answer[0] == GOOD) {
         printf("accepted %" PRIu64 " %" PRIu64 " %" PRIu64 " %" PRIu64 "\n", answer[1], answer[2], answer[3] / 65536, answer[3] % 65536);

@@ -9,7 +9,7 @@
 #include <stdlib.h>
 #include <string.h>
 
-enum { STATE_BYTES = 24576, OUTPUT_BYTES = 4096, BLOCK = 512, CHECK_AT = 508 };
+enum { BLOCK = 512, CHECK_AT = 508 };
 
 enum { REFUSED = 0, GOOD = 1, RUNNING = 4 };
 
@@ -76,7 +76,7 @@ struct machine {
 static void go(struct machine *m, uint64_t budget)
 {
     memset(m->answer, 0xff, sizeof m->answer);
-    rcm_go(m->file, m->file_length, m->form, m->form_length, m->state, STATE_BYTES, m->output, OUTPUT_BYTES, budget, m->answer);
+    rcm_go(m->file, m->file_length, m->form, m->form_length, m->state, RCM_STATE_BYTES, m->output, RCM_OUTPUT_BYTES, budget, m->answer);
     written(m->answer);
     seen(1 + m->answer[0], m->answer[1], m->answer[0] == REFUSED ? m->answer[2] : log_of(m->answer[2]));
 }
@@ -84,7 +84,7 @@ static void go(struct machine *m, uint64_t budget)
 static void test(struct machine *m, uint64_t answer[4])
 {
     memset(answer, 0xff, 4 * sizeof answer[0]);
-    rcm_test(m->file, m->file_length, m->state, STATE_BYTES, answer);
+    rcm_test(m->file, m->file_length, m->state, RCM_STATE_BYTES, answer);
     written(answer);
 }
 
@@ -93,13 +93,13 @@ static void run(struct machine *m, uint64_t budget, uint64_t first)
 {
     struct machine parts = *m;
     uint64_t answer[4];
-    parts.state = copy_of(m->state, STATE_BYTES);
-    parts.output = copy_of(m->output, OUTPUT_BYTES);
+    parts.state = copy_of(m->state, RCM_STATE_BYTES);
+    parts.output = copy_of(m->output, RCM_OUTPUT_BYTES);
     go(m, budget);
     go(&parts, first);
     if (parts.answer[0] == RUNNING)
         go(&parts, budget - first);
-    if (m->answer[0] == REFUSED || memcmp(m->state, parts.state, STATE_BYTES) != 0 || memcmp(m->output, parts.output, OUTPUT_BYTES) != 0)
+    if (m->answer[0] == REFUSED || memcmp(m->state, parts.state, RCM_STATE_BYTES) != 0 || memcmp(m->output, parts.output, RCM_OUTPUT_BYTES) != 0)
         abort();
     test(m, answer);
     if (answer[0] != GOOD)
@@ -113,13 +113,13 @@ static void damaged(struct machine *m, const uint8_t *bits, size_t count)
 {
     uint64_t answer[4];
     for (size_t i = 0; i + 2 <= count; i += 2)
-        m->state[(bits[i] * 256u + bits[i + 1]) % STATE_BYTES] ^= (uint8_t)(1u << (bits[i] % 8));
-    uint8_t *before = copy_of(m->state, STATE_BYTES);
+        m->state[(bits[i] * 256u + bits[i + 1]) % RCM_STATE_BYTES] ^= (uint8_t)(1u << (bits[i] % 8));
+    uint8_t *before = copy_of(m->state, RCM_STATE_BYTES);
     test(m, answer);
     int passes = answer[0] == GOOD;
     go(m, 300);
     if (m->answer[0] == REFUSED) {
-        if (memcmp(before, m->state, STATE_BYTES) != 0)
+        if (memcmp(before, m->state, RCM_STATE_BYTES) != 0)
             abort();
     } else if (!passes) {
         abort();
@@ -153,14 +153,14 @@ int LLVMFuzzerTestOneInput(const uint8_t *data, size_t size)
     seen(0, m.answer[1], m.answer[0] == REFUSED ? m.answer[2] : 0);
     if (m.answer[0] == GOOD) {
         uint8_t arguments[28] = { 0 };
-        m.state = malloc(STATE_BYTES);
-        m.output = calloc(OUTPUT_BYTES, 1);
+        m.state = malloc(RCM_STATE_BYTES);
+        m.output = calloc(RCM_OUTPUT_BYTES, 1);
         if (m.state == NULL || m.output == NULL)
             abort();
-        memset(m.state, 0xa5, STATE_BYTES);
+        memset(m.state, 0xa5, RCM_STATE_BYTES);
         size_t count = 0;
         do {
-            rcm_open(file, length, arguments, count, m.state, STATE_BYTES, m.answer);
+            rcm_open(file, length, arguments, count, m.state, RCM_STATE_BYTES, m.answer);
             count += 4;
         } while (m.answer[0] != GOOD && count <= sizeof arguments);
         if (m.answer[0] != GOOD)
