@@ -1,5 +1,4 @@
--- What the effects of the code mean.
-pub mod Meaning
+-- What the code of a step does.
+pub mod Does
 pub mod Laws
 pub mod Checks
-pub mod Applied

@@ -3,15 +3,17 @@
 ghost use mathlib.Core.Path.{_≡_};
 ghost use Prim.Native.Nat.{_<_};
 ghost use lib.ListN.{length};
-ghost use Rattle.rules.specs.Limits.{mostFrames, mostRegions, stateBytes};
+ghost use Rattle.rules.specs.Limits.{mostFrames, mostRegions, mostInstructions, stateBytes};
 ghost use Rattle.rules.specs.Decode.{moduleOf};
 ghost use Rattle.rules.specs.State.{view, frameMap};
 ghost use Rattle.runs.specs.Table.{Table};
 ghost use Rattle.runs.specs.Maps.{Narrow, mapList};
 ghost use Rattle.prepared.specs.Plain.{plainStands, plainCheck};
 ghost use Rattle.prepared.specs.Ready.{Ready};
-ghost use Rattle.step.specs.Meaning.{Means};
-use crate::Effect;
+ghost use Rattle.step.specs.Does.{Done};
+use crate::Next;
+use crate::apply::assign;
+use crate::apply::stop;
 use crate::parts::region_term;
 use crate::parts::region_variable;
 use crate::parts::register_a;
@@ -89,20 +91,22 @@ pub fn check(
     terms: usize,
     structs: usize,
     extents: &[u64],
-    s: &[u8],
+    s: &mut [u8],
     k: u32,
-) -> Effect
-    requires { ⌜ Ready (now s) k w x × Table (now file) terms structs (now extents) × Narrow (now file) ⌝ }
-    ensures { λ r. ⌜ Means r (plainCheck (moduleOf (now (file .entry))) (view (now (s .entry))) k w x) ⌝ }
+    u: u64,
+    p: u32,
+) -> Next
+    requires { ⌜ Ready (now s) k w x × (p < mostInstructions) × Table (now file) terms structs (now extents) × Narrow (now file) ⌝ }
+    ensures { λ r. ⌜ Done k u p (plainCheck (moduleOf (now (file .entry))) (view (now (s .entry))) k w x) (now (s .entry)) r (now (s .exit)) ⌝ }
 {
     let d = register_a(w);
     let a = register(s, k, register_b(w));
     if a == 0 {
-        return Effect::Stop(32);
+        return stop(s, k, p, 32);
     }
     if stands_at(w, x, file, terms, structs, extents, s, k, a) {
-        Effect::Assign(d, a)
+        assign(s, k, u, p, d, a)
     } else {
-        Effect::Stop(32)
+        stop(s, k, p, 32)
     }
 }

@@ -1,5 +1,5 @@
 -- `finish` meets its contract: what a return closes, the status and the result.
-use Rattle.step.specs.Applied.{finish-done}
+use Rattle.step.specs.Does.{finish-done}
 use borrow.Author.Needs.{needs}
 use Rattle.step.proofs.apply.finish.Statement.{statement}
 use Rattle.step.proofs.apply.finish.Tie as tie
@@ -23,7 +23,7 @@ same-length : tie.Need-same-length
 same-length c = search needs
 
 returns : tie.Need-returns
-returns c = λ functions given own p w x o. finish-done _ _ _ _ _ _ _ _ _ _ _ _ _ _ _ _ (c .before .before .before .before .before .before .before .before .before .before .before .before .region-params-of .ensures) (c .before .before .before .before .before .before .before .before .before .before .before .locals-of .ensures) (c .before .before .before .before .before .before .before .before .before .before .leave .ensures) (c .before .before .before .before .before .before .put-status .ensures) (c .before .before .put-result .ensures)
+returns c = λ m P o p h. finish-done h o p (c .before .before .before .before .before .before .before .before .before .before .before .before .region-params-of .ensures) (c .before .before .before .before .before .before .before .before .before .before .before .locals-of .ensures) (c .before .before .before .before .before .before .before .before .before .before .leave .ensures) (c .before .before .before .before .before .before .put-status .ensures) (c .before .before .put-result .ensures)
 
 pub finish-spec : {M : Type 1} → statement M
 finish-spec =

@@ -1,8 +1,9 @@
 -- `push` meets its contract: the new frame is the one that the words say.
 use mathlib.Core.Path.{ap, _∙_}
+use native.Mathlib.Omega.{arith}
 use lib.ListN.{length}
 use Rattle.words.specs.ByteLaws.{length-splice}
-use Rattle.step.specs.Applied.{enter-params, enter-operands, push-done}
+use Rattle.step.specs.Does.{enter-params, enter-operands, push-done}
 use borrow.Author.Needs.{needs}
 use Rattle.step.proofs.apply.push.Statement.{statement}
 use Rattle.step.proofs.apply.push.Tie as tie
@@ -29,7 +30,7 @@ immediate-of-requires : tie.Need-immediate-of-requires
 immediate-of-requires c κs = search needs
 
 enter-requires : tie.Need-enter-requires
-enter-requires c κs = (ap length (c .before .before .before .before .before .put-instruction .ensures) ∙ length-splice _ _ _ ∙ c .before .before .before .before .before .before .before .before .before .before .pre .0, c .before .before .before .before .before .before .before .before .before .before .pre .4 .0, enter-params (c .before .before .before .before .before .before .before .before .before .before .args .functions .now) _ _ _ (c .before .before .before .before .before .before .before .before .callee-of .ensures .0) (c .before .params-of .ensures) (c .before .before .before .before .before .before .before .before .before .before .pre .4 .1), c .before .before .before .before .before .before .before .before .before .before .pre .3, enter-operands (c .before .before .before .before .before .before .before .before .before .before .args .functions .now) (c .before .before .before .before .before .before .before .before .before .before .args .given .now) _ _ _ _ _ (c .before .before .before .before .before .before .before .before .callee-of .ensures .0) (c .before .params-of .ensures) (c .immediate-of .ensures) (c .before .before .before .before .before .before .before .before .before .before .pre .4 .2))
+enter-requires c κs = (ap length (c .before .before .before .before .before .put-instruction .ensures) ∙ length-splice _ _ _ ∙ c .before .before .before .before .before .before .before .before .before .before .pre .0, c .before .before .before .before .before .before .before .before .before .before .pre .1, enter-params (c .before .before .before .before .before .before .before .before .before .before .pre .5) (c .before .before .before .before .before .before .before .before .callee-of .ensures .0) (c .before .params-of .ensures), c .before .before .before .before .before .before .before .before .before .before .pre .3, enter-operands (c .before .before .before .before .before .before .before .before .before .before .pre .5) (c .before .before .before .before .before .before .before .before .callee-of .ensures .0) (c .before .params-of .ensures) (c .immediate-of .ensures))
 
 add-t21 : tie.Need-add-t21
 add-t21 c = search needs
@@ -38,7 +39,7 @@ same-length : tie.Need-same-length
 same-length c = search needs
 
 returns : tie.Need-returns
-returns c = λ u o. push-done _ _ _ _ _ _ _ _ _ _ _ _ _ _ _ (c .before .before .before .before .before .before .before .before .before .before .before .before .before .pre .0) (c .before .before .before .before .before .before .before .before .before .before .before .before .before .pre .1) (c .before .before .before .before .before .before .before .before .before .before .before .before .before .pre .2) (c .before .before .before .before .before .before .before .before .before .before .before .callee-of .ensures .0) (c .before .before .before .before .params-of .ensures) (c .before .before .before .immediate-of .ensures) (c .before .before .before .before .before .before .before .before .put-instruction .ensures) (c .before .before .enter .ensures)
+returns c = λ code m form o u h. push-done code _ _ _ _ u _ _ _ _ m form h (c .before .before .before .before .before .before .before .before .before .before .before .before .before .pre .4) (c .before .before .before .before .before .before .before .before .before .before .before .before .before .pre .0) (let l = c .before .before .before .before .before .before .before .before .before .before .before .before .before .pre .1 in omega arith) (let l = c .before .before .before .before .before .before .before .before .before .before .before .before .before .pre .2 in omega arith) (c .before .before .before .before .before .before .before .before .before .before .before .callee-of .ensures .0) (c .before .before .before .before .params-of .ensures) (c .before .before .before .immediate-of .ensures) (c .before .before .before .before .before .before .before .before .put-instruction .ensures) (c .before .before .enter .ensures)
 
 pub push-spec : {M : Type 1} → statement M
 push-spec =
