@@ -20,7 +20,7 @@ use Rattle.rules.specs.Step.{Effect, assign, fetch, save, takePlace, gra
 use Rattle.rules.specs.Writes.{applyState}
 use Rattle.rules.specs.Run.{Step, stateAfter, outputAfter, Trace, stuckSteps}
 use Rattle.rules.specs.StateTest.{Listed}
-use Rattle.rules.specs.Host.{Outcome, Went, refused, went, Opened, opened, Tested, passed, goOf, traceOf, openOf, testOf, leftState}
+use Rattle.rules.specs.Host.{Outcome, Went, refused, went, opened, passed, goOf, traceOf, openOf, testOf, leftState}
 
 -- ---- what a load or store touches
 
@@ -120,8 +120,7 @@ AllSafe m (t ∷ ts) = SafeStep m t × AllSafe m ts
 -- left state and output.
 abbrev pub Follows : Module → (form s o : Bytes) → List Step → (t u : Bytes) → Type 0
 Follows m form s o [] t u = (s ≡ t) × (o ≡ u)
-Follows m form s o (x ∷ l) t u =
-    ((x .form ≡ form) × (x .state ≡ s) × (x .output ≡ o) × (view s .status ≡ 0)) × Follows m form (stateAfter m x) (outputAfter x) l t u
+Follows m form s o (x ∷ l) t u = ((x .form ≡ form) × (x .state ≡ s) × (x .output ≡ o) × (view s .status ≡ 0)) × Follows m form (stateAfter m x) (outputAfter x) l t u
 
 -- ---- pages
 

@@ -1,7 +1,7 @@
 -- The typing rules decided: `decTyped` computes, and its answer is the judgment itself or its refutation. Refusal 7 is where it
 -- says no. Nothing here needs to be read to know what the rules are. Assumes nothing.
 use mathlib.Core.Path.{_≡_, refl, sym, ap, _∙_, subst}
-use mathlib.Core.Logic.{_⊎_, inl, inr, _≢_}
+use mathlib.Core.Logic.{inl, inr, _≢_}
 use mathlib.Core.List.{List}
 use Prim.Native.Nat.{ℕ, _^_, _<_, _≤_}
 use native.Mathlib.Decide.{ℕ-discrete, decLt, decLe}
@@ -50,18 +50,6 @@ asArr (ptr T r) = no (λ h. differ (ptr T r) (arr (h .n) (h .element)) (λ e. om
 asArr (arr n T) = yes (record { n = n; element = T; is = refl })
 asArr (struct N rs) = no (λ h. differ (struct N rs) (arr (h .n) (h .element)) (λ e. omega arith) (h .is))
 
-pub int-one : (T : Tree variable) (v w : ℕ) → T ≡ int v → T ≡ int w → v ≡ w
-int-one T v w e d = cc
-
-pub ptr-target : (S T U : Tree variable) (q r : Variable) → S ≡ ptr T q → S ≡ ptr U r → T ≡ U
-ptr-target S T U q r e d = cc
-
-pub ptr-region : (S T U : Tree variable) (q r : Variable) → S ≡ ptr T q → S ≡ ptr U r → q ≡ r
-ptr-region S T U q r e d = cc
-
-pub arr-element : (S T U : Tree variable) (n k : ℕ) → S ≡ arr n T → S ≡ arr k U → T ≡ U
-arr-element S T U n k e d = cc
-
 -- ---- registers
 
 unfoldable pub decReg : (f : Function) (a : ℕ) (T : Tree variable) → Dec (f ⊢ a ∶ T)
@@ -69,21 +57,17 @@ decReg f a T = decBoth (decLt a (f .registers)) (decTree (f .registerType a) T)
 
 -- a rule that names the width of register b
 unfoldable pub withInt : (f : Function) (b : ℕ) (P : ℕ → Type 0) → ((w : ℕ) → P w → f .registerType b ≡ int w) → ((w : ℕ) → Dec (P w)) → Dec ((w : ℕ) × P w)
-withInt f b P is dec = go (asInt (f .registerType b))
-  where
-    go : Dec (IsInt (f .registerType b)) → Dec ((w : ℕ) × P w)
-    go (yes i) = decThe (i .w) (λ x p. int-one (f .registerType b) x (i .w) (is x p) (i .is)) (dec (i .w))
-    go (no n) = no (λ h. n (record { w = h .0; is = is (h .0) (h .1) }))
+withInt f b P is dec = elim (asInt (f .registerType b)) [
+  | yes i ↦ decThe (i .w) (λ x p. cc (is x p, i .is)) (dec (i .w))
+  | no n ↦ no (λ h. n (record { w = h .0; is = is (h .0) (h .1) }))
+]
 
 -- a rule that names the target and the region of pointer register b
 unfoldable pub withPtr : (f : Function) (b : ℕ) (P : Tree variable → Variable → Type 0) → ((T : Tree variable) (r : Variable) → P T r → f .registerType b ≡ ptr T r) → ((T : Tree variable) (r : Variable) → Dec (P T r)) → Dec ((T : Tree variable) × ((r : Variable) × P T r))
-withPtr f b P is dec = go (asPtr (f .registerType b))
-  where
-    go : Dec (IsPtr (f .registerType b)) → Dec ((T : Tree variable) × ((r : Variable) × P T r))
-    go (yes i) =
-        decThe (i .target) (λ T h. ptr-target (f .registerType b) T (i .target) (h .0) (i .region) (is T (h .0) (h .1)) (i .is))
-        (decThe (i .region) (λ r h. ptr-region (f .registerType b) (i .target) (i .target) r (i .region) (is (i .target) r h) (i .is)) (dec (i .target) (i .region)))
-    go (no n) = no (λ h. n (record { target = h .0; region = h .1 .0; is = is (h .0) (h .1 .0) (h .1 .1) }))
+withPtr f b P is dec = elim (asPtr (f .registerType b)) [
+  | yes i ↦ decThe (i .target) (λ T h. cc (is T (h .0) (h .1), i .is)) (decThe (i .region) (λ r h. cc (is (i .target) r h, i .is)) (dec (i .target) (i .region)))
+  | no n ↦ no (λ h. n (record { target = h .0; region = h .1 .0; is = is (h .0) (h .1 .0) (h .1 .1) }))
+]
 
 unfoldable pub anInt : (f : Function) (a : ℕ) → Dec ((w : ℕ) × (f ⊢ a ∶ int w))
 anInt f a = withInt f a (λ w. f ⊢ a ∶ int w) (λ w h. h .1) (λ w. decReg f a (int w))
@@ -95,30 +79,24 @@ aPtr f a = withPtr f a (λ T r. f ⊢ a ∶ ptr T r) (λ T r h. h .1) (λ T r. d
 
 module _ (m : Module) (f : Function) where
   unfoldable pub decConstant : (a d : ℕ) → Dec (Typed m f (constant a d))
-  decConstant a d = mapDec (λ h. t-constant (h .1 .0) (h .1 .1)) back
+  decConstant a d = mapDec (λ h. t-constant (h .1 .0) (h .1 .1)) (λ t. elim t [ t-constant {w = w} p q ↦ (w, (p, q)) ])
       (withInt f a (λ w. (f ⊢ a ∶ int w) × (d < 256 ^ w)) (λ w h. h .0 .1) (λ w. decBoth (decReg f a (int w)) (decLt d (256 ^ w))))
-    where
-      back : Typed m f (constant a d) → (w : ℕ) × ((f ⊢ a ∶ int w) × (d < 256 ^ w))
-      back (t-constant {w = w} p q) = (w, (p, q))
 
   unfoldable pub decCopy : (a b : ℕ) → Dec (Typed m f (copy a b))
-  decCopy a b = mapDec (λ h. t-copy (h .0, refl) (h .1)) back (decBoth (decLt b (f .registers)) (decReg f a (f .registerType b)))
-    where
-      back : Typed m f (copy a b) → (b < f .registers) × (f ⊢ a ∶ f .registerType b)
-      back (t-copy p q) = (p .0, (q .0, q .1 ∙ sym (p .1)))
-
-  -- what the three rules of 18 say
-  abbrev pub Plain : ℕ → ℕ → ℕ → ℕ → Type 0
-  Plain o a b c = (w : ℕ) × ((f ⊢ b ∶ int w) × ((o < signedQuotient) × ((f ⊢ c ∶ int w) × (f ⊢ a ∶ int w))))
-
-  abbrev pub Quotient : ℕ → ℕ → ℕ → ℕ → Type 0
-  Quotient o a b c = (o ≡ signedQuotient) × ((f ⊢ b ∶ int 4) × ((f ⊢ c ∶ int 4) × (f ⊢ a ∶ int 4)))
-
-  abbrev pub Compare : ℕ → ℕ → ℕ → ℕ → Type 0
-  Compare o a b c = (w : ℕ) × ((f ⊢ b ∶ int w) × ((signedQuotient < o) × ((o ≤ lastOperation) × ((f ⊢ c ∶ int w) × (f ⊢ a ∶ int 1)))))
+  decCopy a b = mapDec (λ h. t-copy (h .0, refl) (h .1)) (λ t. elim t [ t-copy p q ↦ (p .0, (q .0, q .1 ∙ sym (p .1))) ]) (decBoth (decLt b (f .registers)) (decReg f a (f .registerType b)))
 
   unfoldable pub decOperate : (o a b c : ℕ) → Dec (Typed m f (operate o a b c))
-  decOperate o a b c = mapDec make back
+  decOperate o a b c = mapDec
+      (λ h. elim h [
+        | inl p ↦ t-operate (p .1 .1 .0) (p .1 .0) (p .1 .1 .1 .0) (p .1 .1 .1 .1)
+        | inr (inl q) ↦ t-quotient (q .0) (q .1 .0) (q .1 .1 .0) (q .1 .1 .1)
+        | inr (inr q) ↦ t-compare (q .1 .1 .0) (q .1 .1 .1 .0) (q .1 .0) (q .1 .1 .1 .1 .0) (q .1 .1 .1 .1 .1)
+      ])
+      (λ t. elim t [
+        | t-operate {w = w} l p q r ↦ inl (w, (p, (l, (q, r))))
+        | t-quotient e p q r ↦ inr (inl (e, (p, (q, r))))
+        | t-compare {w = w} k l p q r ↦ inr (inr (w, (p, (k, (l, (q, r))))))
+      ])
       (decEither
       (withInt f b (λ w. (f ⊢ b ∶ int w) × ((o < signedQuotient) × ((f ⊢ c ∶ int w) × (f ⊢ a ∶ int w)))) (λ w h. h .0 .1)
       (λ w. decBoth (decReg f b (int w)) (decBoth (decLt o signedQuotient) (decBoth (decReg f c (int w)) (decReg f a (int w))))))
@@ -126,58 +104,28 @@ module _ (m : Module) (f : Function) where
       (decBoth (ℕ-discrete o signedQuotient) (decBoth (decReg f b (int 4)) (decBoth (decReg f c (int 4)) (decReg f a (int 4)))))
       (withInt f b (λ w. (f ⊢ b ∶ int w) × ((signedQuotient < o) × ((o ≤ lastOperation) × ((f ⊢ c ∶ int w) × (f ⊢ a ∶ int 1))))) (λ w h. h .0 .1)
       (λ w. decBoth (decReg f b (int w)) (decBoth (decLt signedQuotient o) (decBoth (decLe o lastOperation) (decBoth (decReg f c (int w)) (decReg f a (int 1)))))))))
-    where
-      make : Plain o a b c ⊎ (Quotient o a b c ⊎ Compare o a b c) → Typed m f (operate o a b c)
-      make (inl h) = t-operate (h .1 .1 .0) (h .1 .0) (h .1 .1 .1 .0) (h .1 .1 .1 .1)
-      make (inr (inl h)) = t-quotient (h .0) (h .1 .0) (h .1 .1 .0) (h .1 .1 .1)
-      make (inr (inr h)) = t-compare (h .1 .1 .0) (h .1 .1 .1 .0) (h .1 .0) (h .1 .1 .1 .1 .0) (h .1 .1 .1 .1 .1)
-
-      back : Typed m f (operate o a b c) → Plain o a b c ⊎ (Quotient o a b c ⊎ Compare o a b c)
-      back (t-operate {w = w} l p q r) = inl (w, (p, (l, (q, r))))
-      back (t-quotient e p q r) = inr (inl (e, (p, (q, r))))
-      back (t-compare {w = w} k l p q r) = inr (inr (w, (p, (k, (l, (q, r))))))
 
   unfoldable pub decZero : (a b : ℕ) → Dec (Typed m f (zeroExtend a b))
-  decZero a b = mapDec (λ h. t-zeroExtend (h .1 .1) (h .0 .1)) back (decBoth (anInt f a) (anInt f b))
-    where
-      back : Typed m f (zeroExtend a b) → ((w : ℕ) × (f ⊢ a ∶ int w)) × ((v : ℕ) × (f ⊢ b ∶ int v))
-      back (t-zeroExtend {v = v} {w = w} p q) = ((w, q), (v, p))
+  decZero a b = mapDec (λ h. t-zeroExtend (h .1 .1) (h .0 .1)) (λ t. elim t [ t-zeroExtend {v = v} {w = w} p q ↦ ((w, q), (v, p)) ]) (decBoth (anInt f a) (anInt f b))
 
   unfoldable pub decSigned : (a b : ℕ) → Dec (Typed m f (signExtend a b))
-  decSigned a b = mapDec (λ h. t-signExtend (h .1 .1) (h .0 .1)) back (decBoth (anInt f a) (anInt f b))
-    where
-      back : Typed m f (signExtend a b) → ((w : ℕ) × (f ⊢ a ∶ int w)) × ((v : ℕ) × (f ⊢ b ∶ int v))
-      back (t-signExtend {v = v} {w = w} p q) = ((w, q), (v, p))
+  decSigned a b = mapDec (λ h. t-signExtend (h .1 .1) (h .0 .1)) (λ t. elim t [ t-signExtend {v = v} {w = w} p q ↦ ((w, q), (v, p)) ]) (decBoth (anInt f a) (anInt f b))
 
   unfoldable pub decAddress : (a b : ℕ) → Dec (Typed m f (address a b))
-  decAddress a b = mapDec (λ h. t-address (h .1 .1 .1) (h .0)) back (decBoth (decReg f a (int 4)) (aPtr f b))
-    where
-      back : Typed m f (address a b) → (f ⊢ a ∶ int 4) × ((T : Tree variable) × ((r : Variable) × (f ⊢ b ∶ ptr T r)))
-      back (t-address {r = r} {T = T} p q) = (q, (T, (r, p)))
+  decAddress a b = mapDec (λ h. t-address (h .1 .1 .1) (h .0)) (λ t. elim t [ t-address {r = r} {T = T} p q ↦ (q, (T, (r, p))) ]) (decBoth (decReg f a (int 4)) (aPtr f b))
 
   unfoldable pub decCheck : (a b : ℕ) → Dec (Typed m f (check a b))
-  decCheck a b = mapDec make back (decBoth (decEither (decReg f b (int 4)) (aPtr f b)) (aPtr f a))
-    where
-      with-source : (f ⊢ b ∶ int 4) ⊎ ((T : Tree variable) × ((r : Variable) × (f ⊢ b ∶ ptr T r))) → ((T : Tree variable) × ((r : Variable) × (f ⊢ a ∶ ptr T r))) → Typed m f (check a b)
-      with-source (inl h) k = t-checkInteger h (k .1 .1)
-      with-source (inr h) k = t-checkPointer (h .1 .1) (k .1 .1)
-
-      make : ((f ⊢ b ∶ int 4) ⊎ ((T : Tree variable) × ((r : Variable) × (f ⊢ b ∶ ptr T r)))) × ((T : Tree variable) × ((r : Variable) × (f ⊢ a ∶ ptr T r))) → Typed m f (check a b)
-      make h = with-source (h .0) (h .1)
-
-      back : Typed m f (check a b) → ((f ⊢ b ∶ int 4) ⊎ ((T : Tree variable) × ((r : Variable) × (f ⊢ b ∶ ptr T r)))) × ((T : Tree variable) × ((r : Variable) × (f ⊢ a ∶ ptr T r)))
-      back (t-checkInteger {r = r} {T = T} p q) = (inl p, (T, (r, q)))
-      back (t-checkPointer {q = s} {r = r} {S = S} {T = T} p q) = (inr (S, (s, p)), (T, (r, q)))
+  decCheck a b = mapDec
+      (λ h. elim (h .0) [ inl p ↦ t-checkInteger p (h .1 .1 .1) | inr p ↦ t-checkPointer (p .1 .1) (h .1 .1 .1) ])
+      (λ t. elim t [ t-checkInteger {r = r} {T = T} p q ↦ (inl p, (T, (r, q))) | t-checkPointer {q = s} {r = r} {S = S} {T = T} p q ↦ (inr (S, (s, p)), (T, (r, q))) ])
+      (decBoth (decEither (decReg f b (int 4)) (aPtr f b)) (aPtr f a))
 
   unfoldable pub decField : (a b d : ℕ) → Dec (Typed m f (field a b d))
-  decField a b d = mapDec (λ h. t-field (h .1 .1 .0) (h .1 .1 .1 .1 .1 .0 .0) (h .1 .1 .1 .1 .1 .1)) back
+  decField a b d = mapDec (λ h. t-field (h .1 .1 .0) (h .1 .1 .1 .1 .1 .0 .0) (h .1 .1 .1 .1 .1 .1)) (λ t. elim t [ t-field {r = r} {T = T} {U = U} p q h ↦ (T, (r, (p, (U, (r, ((q, refl), h)))))) ])
       (withPtr f b (λ T r. (f ⊢ b ∶ ptr T r) × ((U : Tree variable) × ((q : Variable) × (((f ⊢ a ∶ ptr U r) × (q ≡ r)) × Run (flat m T) d (flat m U))))) (λ T r h. h .0 .1)
       (λ T r. decBoth (decReg f b (ptr T r))
       (withPtr f a (λ U q. ((f ⊢ a ∶ ptr U r) × (q ≡ r)) × Run (flat m T) d (flat m U)) (λ U q h. h .0 .0 .1 ∙ ap (ptr U) (sym (h .0 .1)))
       (λ U q. decBoth (decBoth (decReg f a (ptr U r)) (decRegion q r)) (decRun (flat m T) d (flat m U))))))
-    where
-      back : Typed m f (field a b d) → (T : Tree variable) × ((r : Variable) × ((f ⊢ b ∶ ptr T r) × ((U : Tree variable) × ((q : Variable) × (((f ⊢ a ∶ ptr U r) × (q ≡ r)) × Run (flat m T) d (flat m U))))))
-      back (t-field {r = r} {T = T} {U = U} p q h) = (T, (r, (p, (U, (r, ((q, refl), h))))))
 
   unfoldable pub decIndex : (a b c : ℕ) → Dec (Typed m f (index a b c))
   decIndex a b c = go (asPtr (f .registerType b))
@@ -190,13 +138,13 @@ module _ (m : Module) (f : Function) where
           (λ h. t-index (h .1 .0, i .is ∙ ap (λ (T : Tree variable). ptr T (i .region)) (j .is)) (h .1 .1) (h .0))
           (λ s.
           let k = back s in
-          let e = ptr-target (f .registerType b) (i .target) (arr (k .0) (k .1 .0)) (i .region) (k .1 .1 .0) (i .is) (k .1 .1 .1 .0 .1) in
-          let t : k .1 .0 ≡ j .element = arr-element (i .target) (k .1 .0) (j .element) (k .0) (j .n) e (j .is) in
-          let r : k .1 .1 .0 ≡ i .region = ptr-region (f .registerType b) (arr (k .0) (k .1 .0)) (i .target) (k .1 .1 .0) (i .region) (k .1 .1 .1 .0 .1) (i .is) in
+          let e : i .target ≡ arr (k .0) (k .1 .0) = cc (i .is, k .1 .1 .1 .0 .1) in
+          let t : k .1 .0 ≡ j .element = cc (e, j .is) in
+          let r : k .1 .1 .0 ≡ i .region = cc (i .is, k .1 .1 .1 .0 .1) in
           (rw (t, r) at (k .1 .1 .1 .1 .1), (k .1 .1 .1 .0 .0, k .1 .1 .1 .1 .0)))
           (decBoth (decReg f a (ptr (j .element) (i .region))) (decBoth (decLt b (f .registers)) (decReg f c (int 4))))
       element i (no n) = no (λ s. let k = back s in
-          n (record { n = k .0; element = k .1 .0; is = ptr-target (f .registerType b) (i .target) (arr (k .0) (k .1 .0)) (i .region) (k .1 .1 .0) (i .is) (k .1 .1 .1 .0 .1) }))
+          n (record { n = k .0; element = k .1 .0; is = cc (i .is, k .1 .1 .1 .0 .1) }))
 
       go : Dec (IsPtr (f .registerType b)) → Dec (Typed m f (index a b c))
       go (yes i) = element i (asArr (i .target))
@@ -211,16 +159,10 @@ module _ (m : Module) (f : Function) where
       (λ T r. decBoth (decBoth (decReg f p (ptr T r)) (decLt v (f .registers))) (decTree T (f .registerType v))))
 
   unfoldable pub decLoad : (a b : ℕ) → Dec (Typed m f (load a b))
-  decLoad a b = mapDec (λ h. t-load (h .1 .0) (h .1 .1, refl)) back (decThrough b a)
-    where
-      back : Typed m f (load a b) → (r : Variable) × ((f ⊢ b ∶ ptr (f .registerType a) r) × (a < f .registers))
-      back (t-load {r = r} p q) = (r, ((p .0, p .1 ∙ ap (λ (T : Tree variable). ptr T r) (sym (q .1))), q .0))
+  decLoad a b = mapDec (λ h. t-load (h .1 .0) (h .1 .1, refl)) (λ t. elim t [ t-load {r = r} p q ↦ (r, ((p .0, p .1 ∙ ap (λ (T : Tree variable). ptr T r) (sym (q .1))), q .0)) ]) (decThrough b a)
 
   unfoldable pub decStore : (a b : ℕ) → Dec (Typed m f (store a b))
-  decStore a b = mapDec (λ h. t-store (h .1 .0) (h .1 .1, refl)) back (decThrough a b)
-    where
-      back : Typed m f (store a b) → (r : Variable) × ((f ⊢ a ∶ ptr (f .registerType b) r) × (b < f .registers))
-      back (t-store {r = r} p q) = (r, ((p .0, p .1 ∙ ap (λ (T : Tree variable). ptr T r) (sym (q .1))), q .0))
+  decStore a b = mapDec (λ h. t-store (h .1 .0) (h .1 .1, refl)) (λ t. elim t [ t-store {r = r} p q ↦ (r, ((p .0, p .1 ∙ ap (λ (T : Tree variable). ptr T r) (sym (q .1))), q .0)) ]) (decThrough a b)
 
   -- a points to a whole object of its region
   unfoldable pub decWhole : (a : ℕ) → Dec ((T : Tree variable) × ((r : Variable) × ((f ⊢ a ∶ ptr T r) × ((r .number < regions f) × Same (flat m T) (flat m (f .regionType (r .number)))))))
@@ -229,67 +171,32 @@ module _ (m : Module) (f : Function) where
       (λ T r. decBoth (decReg f a (ptr T r)) (decBoth (decLt (r .number) (regions f)) (decSame (flat m T) (flat m (f .regionType (r .number))))))
 
   unfoldable pub decNew : (a : ℕ) → Dec (Typed m f (new a))
-  decNew a = mapDec (λ h. t-new (h .1 .1 .0) (h .1 .1 .1 .0) (h .1 .1 .1 .1)) back (decWhole a)
-    where
-      back : Typed m f (new a) → (T : Tree variable) × ((r : Variable) × ((f ⊢ a ∶ ptr T r) × ((r .number < regions f) × Same (flat m T) (flat m (f .regionType (r .number))))))
-      back (t-new {r = r} {T = T} p q s) = (T, (r, (p, (q, s))))
+  decNew a = mapDec (λ h. t-new (h .1 .1 .0) (h .1 .1 .1 .0) (h .1 .1 .1 .1)) (λ t. elim t [ t-new {r = r} {T = T} p q s ↦ (T, (r, (p, (q, s)))) ]) (decWhole a)
 
   unfoldable pub decFree : (a : ℕ) → Dec (Typed m f (free a))
-  decFree a = mapDec (λ h. t-free (h .1 .1 .0) (h .1 .1 .1 .0) (h .1 .1 .1 .1)) back (decWhole a)
-    where
-      back : Typed m f (free a) → (T : Tree variable) × ((r : Variable) × ((f ⊢ a ∶ ptr T r) × ((r .number < regions f) × Same (flat m T) (flat m (f .regionType (r .number))))))
-      back (t-free {r = r} {T = T} p q s) = (T, (r, (p, (q, s))))
+  decFree a = mapDec (λ h. t-free (h .1 .1 .0) (h .1 .1 .1 .0) (h .1 .1 .1 .1)) (λ t. elim t [ t-free {r = r} {T = T} p q s ↦ (T, (r, (p, (q, s)))) ]) (decWhole a)
 
   unfoldable pub decInput : (a c : ℕ) → Dec (Typed m f (input a c))
-  decInput a c = mapDec (λ h. t-input (h .0) (h .1)) back (decBoth (decReg f c (int 4)) (decReg f a (int 1)))
-    where
-      back : Typed m f (input a c) → (f ⊢ c ∶ int 4) × (f ⊢ a ∶ int 1)
-      back (t-input p q) = (p, q)
+  decInput a c = mapDec (λ h. t-input (h .0) (h .1)) (λ t. elim t [ t-input p q ↦ (p, q) ]) (decBoth (decReg f c (int 4)) (decReg f a (int 1)))
 
   unfoldable pub decOutput : (b : ℕ) → Dec (Typed m f (output b))
-  decOutput b = mapDec t-output back (decReg f b (int 1))
-    where
-      back : Typed m f (output b) → f ⊢ b ∶ int 1
-      back (t-output p) = p
+  decOutput b = mapDec t-output (λ t. elim t [ t-output p ↦ p ]) (decReg f b (int 1))
 
   unfoldable pub decJump : (d : ℕ) → Dec (Typed m f (jump d))
-  decJump d = mapDec t-jump back (decLt d (f .codeLength))
-    where
-      back : Typed m f (jump d) → d < f .codeLength
-      back (t-jump p) = p
+  decJump d = mapDec t-jump (λ t. elim t [ t-jump p ↦ p ]) (decLt d (f .codeLength))
 
   unfoldable pub decBranch : (a d : ℕ) → Dec (Typed m f (branch a d))
-  decBranch a d = mapDec (λ h. t-branch (h .0 .1) (h .1)) back (decBoth (anInt f a) (decLt d (f .codeLength)))
-    where
-      back : Typed m f (branch a d) → ((w : ℕ) × (f ⊢ a ∶ int w)) × (d < f .codeLength)
-      back (t-branch {w = w} p q) = ((w, p), q)
-
-  -- what a call asks, part by part
-  abbrev pub Scope : ℕ → List Variable → Type 0
-  Scope g rs = (i : ℕ) → i < m .function g .regionParams → arg rs (region i) .number < regions f
-
-  abbrev pub Types : ℕ → List Variable → Type 0
-  Types g rs = (i : ℕ) → i < m .function g .regionParams → f .regionType (arg rs (region i) .number) ≡ sub (arg rs) (m .function g .regionType i)
-
-  abbrev pub Arguments : ℕ → List Variable → List ℕ → Type 0
-  Arguments g rs xs = (i : ℕ) → i < m .function g .params → f ⊢ argument xs i ∶ sub (arg rs) (m .function g .registerType i)
+  decBranch a d = mapDec (λ h. t-branch (h .0 .1) (h .1)) (λ t. elim t [ t-branch {w = w} p q ↦ ((w, p), q) ]) (decBoth (anInt f a) (decLt d (f .codeLength)))
 
   unfoldable pub decCall : (a g : ℕ) (rs : List Variable) (xs : List ℕ) → Dec (Typed m f (call a g rs xs))
-  decCall a g rs xs = mapDec (λ h. t-call (h .0 .0) (h .1 .0) (h .1 .1 .0) (h .1 .1 .1) (h .0 .1)) back
+  decCall a g rs xs = mapDec (λ h. t-call (h .0 .0) (h .1 .0) (h .1 .1 .0) (h .1 .1 .1) (h .0 .1)) (λ t. elim t [ t-call k s t u r ↦ ((k, r), (s, (t, u))) ])
       (decBoth (decBoth (decLt g (m .functions)) (decReg f a (sub (arg rs) (m .function g .result))))
       (decBoth (decAll (λ i. decLt (arg rs (region i) .number) (regions f)) (m .function g .regionParams))
       (decBoth (decAll (λ i. decTree (f .regionType (arg rs (region i) .number)) (sub (arg rs) (m .function g .regionType i))) (m .function g .regionParams))
       (decAll (λ i. decReg f (argument xs i) (sub (arg rs) (m .function g .registerType i))) (m .function g .params)))))
-    where
-      back : Typed m f (call a g rs xs)
-          → ((g < m .functions) × (f ⊢ a ∶ sub (arg rs) (m .function g .result))) × (Scope g rs × (Types g rs × Arguments g rs xs))
-      back (t-call k s t u r) = ((k, r), (s, (t, u)))
 
   unfoldable pub decReturn : (a : ℕ) → Dec (Typed m f (return a))
-  decReturn a = mapDec t-return back (decReg f a (f .result))
-    where
-      back : Typed m f (return a) → f ⊢ a ∶ f .result
-      back (t-return p) = p
+  decReturn a = mapDec t-return (λ t. elim t [ t-return p ↦ p ]) (decReg f a (f .result))
 
   unfoldable pub decTyped : (i : Instruction) → Dec (Typed m f i)
   decTyped (constant a d) = decConstant a d

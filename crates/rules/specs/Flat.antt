@@ -1,16 +1,16 @@
 -- Document 01, "Flat types": the primitives of a term with their distances, and its size, over a module; runs of consecutive
 -- primitives. Assumes nothing.
-use mathlib.Core.Path.{_≡_, refl, ap, ap₂}
-use mathlib.Core.Bool.{Bool, cond, not}
+use mathlib.Core.Path.{_≡_, ap, ap₂}
+use mathlib.Core.Bool.{cond, not}
 use mathlib.Core.List.{List, [], _∷_, _++_, map}
-use Prim.Native.Nat.{ℕ, zero, suc, _+_, _*_, _≤_, _<_}
-use native.Mathlib.Decide.{ℕ-discrete, decLe, decLt}
+use Prim.Native.Nat.{ℕ, zero, suc, _+_, _*_, _<_}
+use native.Mathlib.Decide.{ℕ-discrete, decLt}
 use lib.Dec.{leb, eqb}
 use lib.ListN.{length, getD, take, drop}
 use Rattle.words.specs.First.{first}
 use Rattle.rules.specs.Limits.{sizeLimit}
 use Rattle.words.specs.Decide.{decBoth, mapDec, decList}
-use Rattle.rules.specs.Types.{RegionKind, variable, Region, Variable, Tree, int, ptr, arr, struct, sub, arg, decTree}
+use Rattle.rules.specs.Types.{RegionKind, variable, Region, Tree, int, ptr, arr, struct, sub, arg, decTree}
 use Rattle.rules.specs.Module.{Module}
 
 -- a primitive and its distance in bytes from the start

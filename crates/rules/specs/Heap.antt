@@ -9,9 +9,9 @@ use native.Mathlib.Decide.{ℕ-discrete, decLt, decLe}
 use lib.Dec.{eqb}
 use Rattle.rules.specs.Limits.{pages, pageBytes}
 use Rattle.words.specs.Decide.{mapDec, decBoth, decEither, decAny}
-use Rattle.rules.specs.Types.{variable, live, Region, Variable, LiveRegion, region, Tree, int, ptr, arr, struct, sub}
+use Rattle.rules.specs.Types.{variable, live, region, Tree, int, ptr, arr, struct, sub}
 use Rattle.rules.specs.Module.{Module, Function}
-use Rattle.rules.specs.Flat.{Layout, flat, size, RunAt, decRun, positionAt}
+use Rattle.rules.specs.Flat.{flat, size, RunAt, decRun, positionAt}
 use Rattle.rules.specs.State.{View}
 
 -- "only the frame's map leads from one to the other": a written type closed by a region map

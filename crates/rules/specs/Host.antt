@@ -1,7 +1,6 @@
 -- Document 01, "From the input", "From the state": opening, going on, the state test and the reader of states, on bytes. Each
 -- gives its one answer and the bytes that it leaves, for all inputs; refusals come in the order 1 to 8, 9, 20, 21, 22.
 -- Assumes nothing.
-use mathlib.Core.Path.{_≡_}
 use mathlib.Core.Bool.{Bool, cond, _&&_}
 use mathlib.Core.List.{List, [], _∷_}
 use Prim.Native.Nat.{ℕ, zero, suc, _+_, _*_, _/_, _%_}

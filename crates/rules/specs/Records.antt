@@ -22,8 +22,7 @@ slot v j n lim = cond (ltb j n) (ltb v lim) (eqb v 0)
 
 -- the four bytes of d, and bytes 1 to 7
 unfoldable pub four : Record → ℕ → ℕ → Bool
-four x n lim =
-    (slot (byteOfD x 0) 0 n lim && slot (byteOfD x 1) 1 n lim) && (slot (byteOfD x 2) 2 n lim && slot (byteOfD x 3) 3 n lim)
+four x n lim = (slot (byteOfD x 0) 0 n lim && slot (byteOfD x 1) 1 n lim) && (slot (byteOfD x 2) 2 n lim && slot (byteOfD x 3) 3 n lim)
 
 unfoldable pub seven : Record → ℕ → ℕ → Bool
 seven x n lim =

@@ -2,8 +2,7 @@
 -- `decPasses` computes, and by its type it says just what `Passes` says. The layout's own clauses (docs/STATE.md) stand at the
 -- end. Assumes nothing.
 use mathlib.Core.Path.{_≡_, sym, ap, _∙_}
-use mathlib.Core.Logic.{_⊎_, inl, inr, _≢_}
-use mathlib.Core.List.{List}
+use mathlib.Core.Logic.{inl, inr, _≢_}
 use Prim.Native.Nat.{ℕ, zero, suc, _+_, _*_, _-_, _<_, _≤_}
 use native.Mathlib.Decide.{ℕ-discrete, decLt, decLe}
 use native.Mathlib.Omega.{arith}
@@ -11,10 +10,10 @@ use lib.ListN.{length}
 use Rattle.words.specs.Bytes.{Bytes, byteAt}
 use Rattle.rules.specs.Limits.{pages, pageBytes, mostFrames, mostRegisters, mostRegions, liveRegions, outputBytes, stateBytes, headerEnd, ownersAt, stackEnd, spareIn, memoryAt, frameBytes, zeroAddress, outputFull}
 use Rattle.words.specs.Decide.{mapDec, decBoth, decEither, decImp, decNot, decAll, Each, decEach}
-use Rattle.rules.specs.Types.{live, region, Tree, width, arg}
+use Rattle.rules.specs.Types.{live, region, width, arg}
 use Rattle.rules.specs.Module.{Module, regions}
 use Rattle.rules.specs.Flat.{Placed, off, type, Layout, flat, size}
-use Rattle.rules.specs.State.{View, view, memoryNumber, framePlace, SpareInFrame, SpareZero}
+use Rattle.rules.specs.State.{View, view, memoryNumber, framePlace, SpareZero}
 use Rattle.rules.specs.Heap.{close, Live, decLive, typeOf, heapTyping, Value, decValue}
 use Rattle.rules.specs.Step.{StandsAtCall, decStandsAtCall}
 
@@ -106,20 +105,12 @@ unfoldable pub decListed : (n : ℕ) → Dec (Listed n)
 decListed n = mapDec (λ h. record { low = h .0; high = h .1 }) (λ l. (l .low, l .high)) (decBoth (decLe zeroAddress n) (decLe n outputFull))
 
 unfoldable pub decStatus : (v : View) → Dec (StatusOk v)
-decStatus v = mapDec to back
+decStatus v = mapDec
+    (λ h. elim h [ inl a ↦ running (a .0) (a .1 .0) (a .1 .1) | inr (inl a) ↦ stopped (a .0) (a .1 .0) (a .1 .1) | inr (inr a) ↦ ended (a .0) (a .1) ])
+    (λ s. elim s [ running a b c ↦ inl (a, (b, c)) | stopped a b c ↦ inr (inl (a, (b, c))) | ended a b ↦ inr (inr (a, b)) ])
     (decEither (decBoth (ℕ-discrete (v .status) 0) (decBoth (decLt 0 (v .frames)) (ℕ-discrete (v .result) 0)))
     (decEither (decBoth (decListed (v .status)) (decBoth (decLt 0 (v .frames)) (ℕ-discrete (v .result) 0)))
     (decBoth (ℕ-discrete (v .status) 1) (ℕ-discrete (v .frames) 0))))
-  where
-    to : ((v .status ≡ 0) × ((0 < v .frames) × (v .result ≡ 0))) ⊎ ((Listed (v .status) × ((0 < v .frames) × (v .result ≡ 0))) ⊎ ((v .status ≡ 1) × (v .frames ≡ 0))) → StatusOk v
-    to (inl h) = running (h .0) (h .1 .0) (h .1 .1)
-    to (inr (inl h)) = stopped (h .0) (h .1 .0) (h .1 .1)
-    to (inr (inr h)) = ended (h .0) (h .1)
-
-    back : StatusOk v → ((v .status ≡ 0) × ((0 < v .frames) × (v .result ≡ 0))) ⊎ ((Listed (v .status) × ((0 < v .frames) × (v .result ≡ 0))) ⊎ ((v .status ≡ 1) × (v .frames ≡ 0)))
-    back (running a b c) = inl (a, (b, c))
-    back (stopped a b c) = inr (inl (a, (b, c)))
-    back (ended a b) = inr (inr (a, b))
 
 -- two readings of one instruction as a call are the same
 pub site-unique : {m : Module} {fn pc : ℕ → ℕ} {k : ℕ} (h l : StandsAtCall m fn pc k)
@@ -127,14 +118,13 @@ pub site-unique : {m : Module} {fn pc : ℕ → ℕ} {k : ℕ} (h l : StandsAtCa
 site-unique h l = (cc (h .site .is, l .site .is), cc (h .site .is, l .site .is))
 
 unfoldable pub decChained : (m : Module) (fn pc : ℕ → ℕ) (map : ℕ → ℕ → ℕ) (k : ℕ) → Dec (Chained m fn pc map k)
-decChained m fn pc map k = go (decStandsAtCall m fn pc k)
-  where
-    go : Dec (StandsAtCall m fn pc k) → Dec (Chained m fn pc map k)
-    go (yes h) = mapDec (λ p. record { caller = h; callee = p .0; through = p .1 })
-        (λ l. (site-unique h (l .caller) .0 ∙ l .callee, rw (site-unique h (l .caller) .1) (l .through)))
-        (decBoth (ℕ-discrete (h .site .callee) (fn (suc k)))
-        (decAll (λ i. ℕ-discrete (map (suc k) i) (map k (arg (h .site .regions) (region i) .number))) (m .function (fn (suc k)) .regionParams)))
-    go (no n) = no (λ l. n (l .caller))
+decChained m fn pc map k = elim (decStandsAtCall m fn pc k) [
+  | yes h ↦ mapDec (λ p. record { caller = h; callee = p .0; through = p .1 })
+      (λ l. (site-unique h (l .caller) .0 ∙ l .callee, rw (site-unique h (l .caller) .1) (l .through)))
+      (decBoth (ℕ-discrete (h .site .callee) (fn (suc k)))
+      (decAll (λ i. ℕ-discrete (map (suc k) i) (map k (arg (h .site .regions) (region i) .number))) (m .function (fn (suc k)) .regionParams)))
+  | no n ↦ no (λ l. n (l .caller))
+]
 
 unfoldable pub decFrames : (m : Module) (fn pc : ℕ → ℕ) (map : ℕ → ℕ → ℕ) (n : ℕ) → Dec (FramesOk m fn pc map n)
 decFrames m fn pc map n = mapDec
@@ -166,8 +156,7 @@ decContents m v n = mapDec
 
 unfoldable pub decMarksEnd : (m : Module) (v : View) (n p x : ℕ) → Dec (MarksEnd m v n p x)
 decMarksEnd m v n p zero = yes tt
-decMarksEnd m v n p (suc r) =
-    decAll (λ j. decImp (decLt pageBytes (size m (typeOf m (v .fn) (v .map) n r) * suc j)) (ℕ-discrete (v .mark p j) 0)) pageBytes
+decMarksEnd m v n p (suc r) = decAll (λ j. decImp (decLt pageBytes (size m (typeOf m (v .fn) (v .map) n r) * suc j)) (ℕ-discrete (v .mark p j) 0)) pageBytes
 
 unfoldable pub decSpare : (m : Module) (v : View) (n : ℕ) → Dec (SpareOk m v n)
 decSpare m v n = mapDec
@@ -182,31 +171,25 @@ decSpare m v n = mapDec
 
 -- the bytes that no accessor reads, area by area
 unfoldable pub decUnread : (s : Bytes) → Dec (SpareZero s)
-decUnread s = mapDec all parts
-    (decBoth (decAll (λ i. ℕ-discrete (byteAt s (headerEnd + i)) 0) (ownersAt - headerEnd))
-    (decBoth (decAll (λ i. ℕ-discrete (byteAt s (stackEnd + i)) 0) (memoryAt - stackEnd))
-    (decAll (λ k. decAll (λ o. ℕ-discrete (byteAt s (framePlace k + spareIn + o)) 0) (frameBytes - spareIn)) mostFrames)))
-  where
-    all : ((i : ℕ) → i < ownersAt - headerEnd → byteAt s (headerEnd + i) ≡ 0)
-        × (((i : ℕ) → i < memoryAt - stackEnd → byteAt s (stackEnd + i) ≡ 0) × ((k : ℕ) → k < mostFrames → (o : ℕ) → o < frameBytes - spareIn → byteAt s (framePlace k + spareIn + o) ≡ 0))
-        → SpareZero s
-    all h i (inl c) = let e : headerEnd + (i - headerEnd) ≡ i = omega (arith, c) in ap (byteAt s) (sym e) ∙ h .0 (i - headerEnd) (omega (arith, c))
-    all h i (inr (inl c)) = let e : stackEnd + (i - stackEnd) ≡ i = omega (arith, c) in ap (byteAt s) (sym e) ∙ h .1 .0 (i - stackEnd) (omega (arith, c))
-    all h i (inr (inr c)) =
-        let k : ℕ = c .frame in
-        let e : framePlace k + spareIn + (i - (framePlace k + spareIn)) ≡ i = omega (arith, c .low) in
-        ap (byteAt s) (sym e) ∙ h .1 .1 k (c .below) (i - (framePlace k + spareIn)) (omega (arith, c .low, c .high))
-
-    parts : SpareZero s
-        → ((i : ℕ) → i < ownersAt - headerEnd → byteAt s (headerEnd + i) ≡ 0)
-        × (((i : ℕ) → i < memoryAt - stackEnd → byteAt s (stackEnd + i) ≡ 0) × ((k : ℕ) → k < mostFrames → (o : ℕ) → o < frameBytes - spareIn → byteAt s (framePlace k + spareIn + o) ≡ 0))
-    parts z = (
+decUnread s = mapDec
+    (λ h i c. elim c [
+      | inl c ↦ let e : headerEnd + (i - headerEnd) ≡ i = omega (arith, c) in ap (byteAt s) (sym e) ∙ h .0 (i - headerEnd) (omega (arith, c))
+      | inr (inl c) ↦ let e : stackEnd + (i - stackEnd) ≡ i = omega (arith, c) in ap (byteAt s) (sym e) ∙ h .1 .0 (i - stackEnd) (omega (arith, c))
+      | inr (inr c) ↦
+          let k : ℕ = c .frame in
+          let e : framePlace k + spareIn + (i - (framePlace k + spareIn)) ≡ i = omega (arith, c .low) in
+          ap (byteAt s) (sym e) ∙ h .1 .1 k (c .below) (i - (framePlace k + spareIn)) (omega (arith, c .low, c .high))
+    ])
+    (λ z. (
       λ i h. z (headerEnd + i) (inl (omega arith, omega arith)),
       (
         λ i h. z (stackEnd + i) (inr (inl (omega arith, omega arith))),
         λ k l o h. z (framePlace k + spareIn + o) (inr (inr (record { frame = k; below = l; low = omega arith; high = omega arith }))),
       ),
-    )
+    ))
+    (decBoth (decAll (λ i. ℕ-discrete (byteAt s (headerEnd + i)) 0) (ownersAt - headerEnd))
+    (decBoth (decAll (λ i. ℕ-discrete (byteAt s (stackEnd + i)) 0) (memoryAt - stackEnd))
+    (decAll (λ k. decAll (λ o. ℕ-discrete (byteAt s (framePlace k + spareIn + o)) 0) (frameBytes - spareIn)) mostFrames)))
 
 unfoldable pub decPasses : (m : Module) (s : Bytes) → Dec (Passes m s)
 decPasses m s = mapDec

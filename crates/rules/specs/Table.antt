@@ -1,10 +1,11 @@
 -- A table of files with their verdicts, tested by one computation and true of `verdictOf`. Assumes nothing.
-use mathlib.Core.Path.{_≡_, refl, _∙_}
+use mathlib.Core.Path.{_≡_, _∙_}
 use mathlib.Core.Bool.{Bool, true, false, _&&_}
 use mathlib.Core.List.{List, [], _∷_}
 use Prim.Native.Nat.{ℕ}
 use lib.Dec.{eqb}
 use borrow.Author.Tests.{eqb-true}
+use Rattle.words.specs.Choose.{both}
 use Rattle.rules.specs.Verdict.{verdictOf}
 use Rattle.rules.specs.Quick.{quickOf, quick}
 use Rattle.rules.specs.declared.Verdict.{Verdict}
@@ -32,10 +33,6 @@ same (Refused n p) (Refused m q) = eqb n m && eqb p q
 abbrev pub right : List Case → Bool
 right [] = true
 right (c ∷ cs) = same (quickOf (c .file)) (c .verdict) && right cs
-
-both : (a b : Bool) → a && b ≡ true → (a ≡ true) × (b ≡ true)
-both true b e = (refl, e)
-both false b e = absurd (mathlib.Core.Bool.false≢true e)
 
 same-is : (v w : Verdict) → same v w ≡ true → v ≡ w
 same-is (Accepted a b c d) (Accepted k l m n) e =

@@ -1,7 +1,7 @@
 -- Document 01, "The module file" (terms) and "Flat types": type terms as trees, substitution, equality, regions used.
 -- A term has at most one inner term, so a tree is a chain. Assumes nothing.
-use mathlib.Core.Path.{_≡_, refl, ap, ap₂}
-use mathlib.Core.List.{List, [], _∷_, map}
+use mathlib.Core.Path.{_≡_, ap, ap₂}
+use mathlib.Core.List.{List, [], map}
 use Prim.Native.Nat.{ℕ, _<_}
 use native.Mathlib.Decide.{ℕ-discrete, decLt}
 use native.Mathlib.Omega.{arith}
@@ -107,8 +107,7 @@ decTree (arr n T) (struct M ss) = no (λ e. let h = ap form e in absurd (omega a
 decTree (struct N rs) (int w) = no (λ e. let h = ap form e in absurd (omega arith))
 decTree (struct N rs) (ptr U s) = no (λ e. let h = ap form e in absurd (omega arith))
 decTree (struct N rs) (arr n U) = no (λ e. let h = ap form e in absurd (omega arith))
-decTree (struct N rs) (struct M ss) =
-    mapDec (λ h. ap₂ struct (h .0) (h .1)) (λ e. (ap numberOf e, ap args e)) (decBoth (ℕ-discrete N M) (decList decRegion rs ss))
+decTree (struct N rs) (struct M ss) = mapDec (λ h. ap₂ struct (h .0) (h .1)) (λ e. (ap numberOf e, ap args e)) (decBoth (ℕ-discrete N M) (decList decRegion rs ss))
 
 -- "A term uses each region written in it, under pointers too": all of them are below n
 pub data Uses (n : ℕ) : Tree variable → Type 0 where
@@ -119,18 +118,9 @@ pub data Uses (n : ℕ) : Tree variable → Type 0 where
 
 unfoldable pub decUses : (n : ℕ) (T : Tree variable) → Dec (Uses n T)
 decUses n (int w) = yes in-int
-decUses n (ptr T r) = mapDec (λ h. in-ptr (h .0) (h .1)) back (decBoth (decLt (r .number) n) (decUses n T))
-  where
-    back : Uses n (ptr T r) → (r .number < n) × Uses n T
-    back (in-ptr h u) = (h, u)
-decUses n (arr m T) = mapDec in-arr back (decUses n T)
-  where
-    back : Uses n (arr m T) → Uses n T
-    back (in-arr u) = u
-decUses n (struct N rs) = mapDec in-struct back (decEach (λ r. decLt (r .number) n) rs)
-  where
-    back : Uses n (struct N rs) → Each (λ r. r .number < n) rs
-    back (in-struct u) = u
+decUses n (ptr T r) = mapDec (λ h. in-ptr (h .0) (h .1)) (λ u. elim u [ in-ptr l v ↦ (l, v) ]) (decBoth (decLt (r .number) n) (decUses n T))
+decUses n (arr m T) = mapDec in-arr (λ u. elim u [ in-arr v ↦ v ]) (decUses n T)
+decUses n (struct N rs) = mapDec in-struct (λ u. elim u [ in-struct v ↦ v ]) (decEach (λ r. decLt (r .number) n) rs)
 
 -- "Flattening a term stops at integers and pointers, the primitives": by form
 pub data Primitive {k : RegionKind} : Tree k → Type 0 where

@@ -3,7 +3,7 @@
 use mathlib.Core.Path.{_≡_}
 use mathlib.Core.Bool.{Bool, false}
 use mathlib.Core.List.{List, [], _∷_, _++_}
-use Prim.Native.Nat.{ℕ, _+_, _-_, _<_, _≤_}
+use Prim.Native.Nat.{ℕ, _-_, _<_, _≤_}
 use native.Mathlib.Decide.{ℕ-discrete}
 use Rattle.words.specs.Bytes.{Bytes, listOf}
 use Rattle.words.specs.First.{sumBelow}
@@ -44,8 +44,7 @@ unfoldable pub instructionTest : Module → Function → ℕ → Bool
 instructionTest m F i = does (decTyped m F (F .code i))
 
 unfoldable pub instructionStage : Bytes → Module → ℕ → Stage
-instructionStage f m g =
-    let F = m .function g in record { count = F .codeLength; test = instructionTest m F; number = λ i. 7; place = instructionAt f g }
+instructionStage f m g = let F = m .function g in record { count = F .codeLength; test = instructionTest m F; number = λ i. 7; place = instructionAt f g }
 
 -- "8 the last is neither 31 nor 34 (place: that record)"
 unfoldable pub lastTest : Module → ℕ → Bool
@@ -55,8 +54,7 @@ abbrev pub lastStage : Bytes → Module → Stage
 lastStage f m = record { count = m .functions; test = lastTest m; number = λ g. 8; place = λ g. instructionAt f g (m .function g .codeLength - 1) }
 
 unfoldable pub moduleStages : Bytes → Module → List Stage
-moduleStages f m =
-    termStage m ∷ structStage m ∷ functionStage f m ∷ (listOf (instructionStage f m) (m .functions) ++ lastStage f m ∷ [])
+moduleStages f m = termStage m ∷ structStage m ∷ functionStage f m ∷ (listOf (instructionStage f m) (m .functions) ++ lastStage f m ∷ [])
 
 -- "prints terms, names, functions, instructions"
 unfoldable pub instructions : Module → ℕ

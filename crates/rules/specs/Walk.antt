@@ -13,34 +13,27 @@ use Rattle.rules.specs.declared.Walk.{Walk}
 use Rattle.rules.specs.declared.Phase.{Phase}
 use Rattle.rules.specs.declared.Phase.the-variants.{Terms, Names, Fields, Functions, Regions, Registers, Code, Arguments, Filler, Broken}
 
--- the same counts, waiting for p, of which n are to come
-abbrev pub to : Walk → Phase → ℕ → Walk
-to w p n = record {
+-- w, waiting for p, with other counts of terms, of names and of what is to come, and another callee
+abbrev pub changed : Walk → Phase → (terms names left callee : ℕ) → Walk
+changed w p terms names left callee = record {
   phase = p;
-  terms = w .terms;
-  names = w .names;
+  terms = terms;
+  names = names;
   functions = w .functions;
   head = w .head;
   regions = w .regions;
   registers = w .registers;
   instructions = w .instructions;
-  left = n;
-  callee = w .callee;
+  left = left;
+  callee = callee;
 }
 
+-- the same counts, waiting for p, of which n are to come
+abbrev pub to : Walk → Phase → ℕ → Walk
+to w p n = changed w p (w .terms) (w .names) n (w .callee)
+
 abbrev pub start : Walk
-start = record {
-  phase = Terms;
-  terms = 0;
-  names = 0;
-  functions = 0;
-  head = 0;
-  regions = 0;
-  registers = 0;
-  instructions = 0;
-  left = 0;
-  callee = 0;
-}
+start = record { phase = Terms; terms = 0; names = 0; functions = 0; head = 0; regions = 0; registers = 0; instructions = 0; left = 0; callee = 0 }
 
 -- after the record 9s the code, where there is any
 unfoldable pub toCode : Walk → Walk
@@ -69,33 +62,11 @@ unfoldable pub opened : Walk → Record → ℕ → Walk
 opened w x r = cond (ltb 0 (regionsOf x)) (headed w x r) (toRegisters (headed w x r))
 
 abbrev pub toTerm : Walk → Walk
-toTerm w = record {
-  phase = Terms;
-  terms = w .terms + 1;
-  names = w .names;
-  functions = w .functions;
-  head = w .head;
-  regions = w .regions;
-  registers = w .registers;
-  instructions = w .instructions;
-  left = 0;
-  callee = w .callee;
-}
+toTerm w = changed w Terms (w .terms + 1) (w .names) 0 (w .callee)
 
 -- "5 name with a regions and b fields, then 6"
 abbrev pub named : Walk → Record → Walk
-named w x = record {
-  phase = Fields;
-  terms = w .terms;
-  names = w .names + 1;
-  functions = w .functions;
-  head = w .head;
-  regions = w .regions;
-  registers = w .registers;
-  instructions = w .instructions;
-  left = x .b;
-  callee = w .callee;
-}
+named w x = changed w Fields (w .terms) (w .names + 1) (x .b) (w .callee)
 
 -- an instruction is over: the next, or after the last another function
 unfoldable pub done : Walk → Walk
@@ -103,18 +74,7 @@ done w = cond (leb (w .left) 1) (to w Functions 0) (to w Code (w .left - 1))
 
 -- "33 calls function b ..; record 35 follows"
 abbrev pub called : Walk → Record → Walk
-called w x = record {
-  phase = Arguments;
-  terms = w .terms;
-  names = w .names;
-  functions = w .functions;
-  head = w .head;
-  regions = w .regions;
-  registers = w .registers;
-  instructions = w .instructions;
-  left = w .left;
-  callee = x .b;
-}
+called w x = changed w Arguments (w .terms) (w .names) (w .left) (x .b)
 
 -- a function, or filler
 unfoldable pub toFunction : Walk → Record → ℕ → Walk
