@@ -10,7 +10,7 @@ use native.Mathlib.Omega.{arith}
 use Rattle.rules.specs.Limits.{pages, pageBytes, memoryBytes}
 use Rattle.rules.specs.Types.{variable, live, Variable, region, Tree, int, ptr, arr, struct, width, sub, Primitive, integer, pointer}
 use Rattle.rules.specs.Module.{Module}
-use Rattle.rules.specs.Flat.{at, off, type, Has, flat, size, count, distance, Run, RunAt, Same}
+use Rattle.rules.specs.Flat.{at, off, Has, flat, size, count, distance, Run, RunAt, Same}
 use Rattle.rules.specs.Heap.{close, HeapTyping, Stands, Value}
 use Rattle.rules.specs.Claim.{InObject, InRun}
 use Rattle.layout.specs.TypesOk.{GoodTree, good-element, TypesOk}

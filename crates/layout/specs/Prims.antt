@@ -13,7 +13,7 @@ use Rattle.rules.specs.Limits.{sizeLimit}
 use Rattle.words.specs.Decide.{Each, none, more}
 use Rattle.rules.specs.Types.{RegionKind, variable, Region, Tree, int, ptr, arr, struct, sub, arg}
 use Rattle.rules.specs.Module.{Module}
-use Rattle.rules.specs.Flat.{Placed, at, off, type, Has, here, there, Layout, single, none as noLayout, empty, moved, packed, beside, copiesOf, copies, placedIn, subLayout, flatWith, fieldsFrom, fieldsWith, layouts, flat, size, count}
+use Rattle.rules.specs.Flat.{Placed, at, off, type, Has, here, there, Layout, single, none as noLayout, empty, moved, packed, beside, copiesOf, copies, placedIn, subLayout, flatWith, fieldsFrom, fieldsWith, layouts, flat, count}
 use Rattle.layout.specs.Lists.{map-append, map-map, map-same, snoc-cases}
 
 -- ---- one primitive

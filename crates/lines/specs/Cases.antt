@@ -1,12 +1,12 @@
 -- Lines by computation; that nothing follows a refused module; and document 01's worked file: `accepted 1 0 1 2`, `ended 42 2`.
 -- Assumes nothing.
-use mathlib.Core.Path.{_≡_, refl, sym, ap, ap₂, _∙_, subst}
+use mathlib.Core.Path.{_≡_, refl, sym, ap, _∙_}
 use mathlib.Core.List.{[], _∷_, _++_, append-nil}
 use Prim.Native.Nat.{ℕ, _*_}
 use lib.Dec.{eqb}
 use lib.ListN.{length, replicate, length-replicate}
 use Rattle.words.specs.Bytes.{Bytes}
-use Rattle.rules.specs.Limits.{outputBytes, stateBytes, badInput, badLength}
+use Rattle.rules.specs.Limits.{stateBytes, badInput, badLength}
 use Rattle.rules.specs.Decode.{moduleOf}
 use Rattle.rules.specs.Verdict.{verdictOf}
 use Rattle.rules.specs.Host.{ended, stopped, running, Went, refused, went, Opened, notOpened, opened, onVerdict, unless, firstState, openOf}

@@ -7,7 +7,7 @@ use native.Mathlib.Decide.{decLt}
 use native.Mathlib.Omega.{arith}
 use Rattle.rules.specs.Limits.{liveRegions, outputBytes}
 use Rattle.rules.specs.Types.{region, width, arg}
-use Rattle.rules.specs.Module.{Module, regions, argument}
+use Rattle.rules.specs.Module.{Module, argument}
 use Rattle.rules.specs.State.{View}
 use Rattle.rules.specs.Heap.{close, Live, HeapTyping, heapTyping, Value}
 use Rattle.rules.specs.Step.{Effect, assign, fetch, save, takePlace, grantPage, freePlace, goTo, emit, push, pop, finish, stop, stuck}

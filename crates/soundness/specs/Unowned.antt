@@ -2,11 +2,11 @@
 -- module there is none. States that differ in any way in the bytes of pages that no live region owns do the same steps, write out the same
 -- bytes, and still differ in such pages only: what lies there bears on nothing, whatever the form. Assumes nothing.
 use mathlib.Core.Path.{_≡_, refl, sym, ap, ap₂, _∙_, subst}
-use mathlib.Core.Bool.{Bool, true, false, cond, true≢false, false≢true}
+use mathlib.Core.Bool.{Bool, true, false, true≢false, false≢true}
 use mathlib.Core.Logic.{_≢_}
-use mathlib.Core.List.{List, [], _∷_}
-use Prim.Native.Nat.{ℕ, zero, suc, _+_, _*_, _/_, _%_, _<_, _≤_}
-use native.Mathlib.Decide.{ℕ-discrete, decLt}
+use mathlib.Core.List.{List, _∷_}
+use Prim.Native.Nat.{ℕ, zero, suc, _+_, _/_, _%_, _<_, _≤_}
+use native.Mathlib.Decide.{ℕ-discrete}
 use native.Mathlib.Omega.{arith}
 use lib.Dec.{eqb}
 use borrow.Author.Tests.{eqb-true}
@@ -14,13 +14,13 @@ use Rattle.words.specs.Bytes.{Bytes, AllBytes, byteAt}
 use Rattle.words.specs.Choose.{came-no}
 use Rattle.rules.specs.Limits.{pageBytes, memoryBytes}
 use Rattle.rules.specs.Module.{Module}
-use Rattle.rules.specs.Flat.{flat, size}
+use Rattle.rules.specs.Flat.{size}
 use Rattle.rules.specs.Decode.{moduleOf}
 use Rattle.rules.specs.Verdict.{verdictOf, IsAccepted}
 use Rattle.rules.specs.State.{View, view, memoryPlace}
 use Rattle.rules.specs.Heap.{close}
 use Rattle.rules.specs.Step.{Effect, assign, fetch, save, takePlace, grantPage, freePlace, goTo, emit, push, pop, finish, stop, stuck, effectOf, closes}
-use Rattle.rules.specs.Writes.{applyState, applyOutput}
+use Rattle.rules.specs.Writes.{applyState}
 use Rattle.rules.specs.Run.{Step, topOf, stepOf, stateAfter, outputAfter, Trace, noSteps, runOf}
 use Rattle.rules.specs.StateTest.{Passes}
 use Rattle.rules.specs.Claim.{Touches, SameButPages, Reads, SafeStep}
@@ -29,8 +29,7 @@ use Rattle.layout.specs.Close.{size-close}
 use Rattle.state.specs.Update.{upd, upd-cases, upd-other, stored, zeroed, zeroed-in, zeroed-out}
 use Rattle.state.specs.Apply.{apply}
 use Rattle.state.specs.Areas.{withMemory}
-use Rattle.state.specs.Effects.{Onward, Bounded, view-apply}
-use Rattle.state.specs.Reads.{memory-past}
+use Rattle.state.specs.Effects.{Bounded, view-apply}
 use Rattle.state.specs.Whole.{Whole, spare-edges, whole-apply}
 use Rattle.state.specs.Independence.{view-pages, memory-byte}
 use Rattle.soundness.specs.Facts.{ModuleOk, accepted-ok}

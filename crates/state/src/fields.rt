@@ -6,7 +6,7 @@ ghost use lib.ListN.{length};
 ghost use Rattle.words.specs.Widths.{widthOf};
 ghost use Rattle.words.specs.First.{first};
 ghost use Rattle.rules.specs.Limits.{stateBytes, pages, pageBytes, memoryBytes, mostFrames, mostRegisters, mostRegions};
-ghost use Rattle.rules.specs.State.{view, frameFunction, frameInstruction, frameRegister, frameMap, pageOwner, pageMark, memoryByte, memoryNumber, putStatus, putFrames, putOutputCount, putResult, putOwner, putMark, clearMarks, clearPage, putMemory, putRegister, putInstruction, putFrame, clearFrame};
+ghost use Rattle.rules.specs.State.{view, frameFunction, frameInstruction, frameRegister, frameMap, pageOwner, pageMark, memoryNumber, putStatus, putFrames, putOutputCount, putResult, putOwner, putMark, clearMarks, clearPage, putMemory, putRegister, putInstruction, putFrame, clearFrame};
 ghost use Rattle.state.specs.Apply.{nothing};
 ghost use Rattle.state.specs.Puts.{after};
 ghost use Rattle.state.specs.NewFrame.{putRegion};

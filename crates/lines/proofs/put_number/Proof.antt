@@ -5,9 +5,6 @@ use Rattle.lines.specs.Writing.{puts-length, decimal-short, number-puts}
 use borrow.Author.Needs.{needs}
 use Rattle.lines.proofs.put_number.Statement.{statement}
 use Rattle.lines.proofs.put_number.Tie as tie
-use Rattle.lines.proofs.put_number.Reads as reads
-use Rattle.lines.proofs.put_number.Lts as lts
-use Rattle.lines.proofs.put_digits.Reads as put-digits-reads
 
 slice-write-out : tie.Need-slice-write-out
 slice-write-out c = search needs

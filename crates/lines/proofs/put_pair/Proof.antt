@@ -4,9 +4,6 @@ use Rattle.lines.specs.Writing.{puts-then}
 use borrow.Author.Needs.{needs}
 use Rattle.lines.proofs.put_pair.Statement.{statement}
 use Rattle.lines.proofs.put_pair.Tie as tie
-use Rattle.lines.proofs.put_pair.Reads as reads
-use Rattle.lines.proofs.put_pair.Lts as lts
-use Rattle.lines.proofs.put_number.Reads as put-number-reads
 
 put-number-requires : tie.Need-put-number-requires
 put-number-requires c κs = search needs

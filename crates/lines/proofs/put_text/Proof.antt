@@ -7,8 +7,6 @@ use denote.Ref.{now}
 use Rattle.lines.specs.Writing.{Puts, puts-length, text-none, text-more, text-all}
 use Rattle.lines.proofs.put_text.Statement.{statement}
 use Rattle.lines.proofs.put_text.Tie as tie
-use Rattle.lines.proofs.put_text.Reads as reads
-use Rattle.lines.proofs.put_text.Lts as lts
 
 abbrev Inv-loop : tie.InvT-loop
 Inv-loop out₀ at text n i₀ out i = (i ≤ n) × Puts out₀ out at (at + i) (take i text)

@@ -4,10 +4,6 @@ use Rattle.lines.specs.Writing.{puts-length, line-two-puts}
 use borrow.Author.Needs.{needs}
 use Rattle.lines.proofs.put_two.Statement.{statement}
 use Rattle.lines.proofs.put_two.Tie as tie
-use Rattle.lines.proofs.put_two.Reads as reads
-use Rattle.lines.proofs.put_two.Lts as lts
-use Rattle.lines.proofs.put_pair.Reads as put-pair-reads
-use Rattle.lines.proofs.put_text.Reads as put-text-reads
 
 put-text-requires : tie.Need-put-text-requires
 put-text-requires c κs = search needs

@@ -4,10 +4,6 @@ use Rattle.lines.specs.Writing.{puts-length, line-one-puts}
 use borrow.Author.Needs.{needs}
 use Rattle.lines.proofs.running_line.Statement.{statement}
 use Rattle.lines.proofs.running_line.Tie as tie
-use Rattle.lines.proofs.running_line.Reads as reads
-use Rattle.lines.proofs.running_line.Lts as lts
-use Rattle.lines.proofs.put_number.Reads as put-number-reads
-use Rattle.lines.proofs.put_text.Reads as put-text-reads
 
 slice-aggregate-put-text : tie.Need-slice-aggregate-put-text
 slice-aggregate-put-text c = search needs

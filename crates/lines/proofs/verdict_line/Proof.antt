@@ -2,10 +2,6 @@
 use borrow.Author.Needs.{needs}
 use Rattle.lines.proofs.verdict_line.Statement.{statement}
 use Rattle.lines.proofs.verdict_line.Tie as tie
-use Rattle.lines.proofs.verdict_line.Reads as reads
-use Rattle.lines.proofs.verdict_line.Lts as lts
-use Rattle.lines.proofs.accepted_line.Reads as accepted-line-reads
-use Rattle.lines.proofs.refused_line.Reads as refused-line-reads
 
 enum-known-v : tie.Need-enum-known-v
 enum-known-v c = search needs

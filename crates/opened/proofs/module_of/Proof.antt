@@ -24,7 +24,7 @@ use sound.WpLaws.{FmC, fmOf, WpFn-mono}
 use denote.RattleType.{RattleType, owns, Valss}
 use denote.Laws.{Is, shows}
 use denote.Builtin.{u8}
-use denote.Ref.{RefT, NamedLft, now}
+use denote.Ref.{RefT, now}
 use denote.Signature.{plain, namedLft}
 use denote.Slice.{sliceVal, ShrSlice, slice-vals, shr-slice-tells, shr-slice-lawful, shr-slice-copy}
 use denote.Steps.{peeks, heard, nothing}
