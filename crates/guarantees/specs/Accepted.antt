@@ -5,14 +5,13 @@ use mathlib.Core.List.{List}
 use Prim.Native.Nat.{ℕ}
 use native.Mathlib.Omega.{arith}
 use Rattle.words.specs.Bytes.{Bytes}
-use Rattle.rules.specs.Walk.{whole}
 use Rattle.rules.specs.Decode.{moduleOf}
 use Rattle.rules.specs.Verdict.{instructions, verdictOf, IsAccepted}
 use Rattle.rules.specs.declared.Verdict.{Verdict}
 use Rattle.rules.specs.declared.Verdict.the-variants.{Accepted, Refused}
 use Rattle.typing.specs.Walk.{Fits}
 use Rattle.typing.specs.Accepted.{framed, records-fit, counts}
-use Rattle.walk.specs.Tables.{tablesOf, tables-walk}
+use Rattle.walk.specs.Tables.{tablesOf}
 use Rattle.walk.specs.declared.tables.Tables.{Tables}
 use Rattle.terms.specs.Extents.{Counted}
 use Rattle.functions.specs.Functions as functions
@@ -27,10 +26,6 @@ use Rattle.checker.specs.Narrow.{narrow}
 -- a verdict `Accepted` is acceptance
 pub says-accepted : (f : Bytes) {v : Verdict} {n k c i : ℕ} → v ≡ verdictOf f → v ≡ Accepted n k c i → IsAccepted (verdictOf f)
 says-accepted f e q = subst IsAccepted (sym q ∙ e) tt
-
--- and no verdict `Refused` is
-pub says-refused : (f : Bytes) {v : Verdict} {n p : ℕ} → v ≡ verdictOf f → v ≡ Refused n p → IsAccepted (verdictOf f) → ⊥
-says-refused f e q a = subst IsAccepted (sym e ∙ q) a
 
 -- ---- its counts
 
@@ -62,23 +57,6 @@ unfolding termsIn structsIn functionsIn instructionsIn
 counts-are f e q =
     let d = sym q ∙ e ∙ counts f (says-accepted f e q) in
     record { terms = ap termsIn d; structs = ap structsIn d; functions = ap functionsIn d; instructions = ap instructionsIn d }
-
--- and those of the walk
-module _ (f : Bytes) (t : Tables) (e : t ≡ tablesOf f) where
-  walk-is : t .walk ≡ whole f .walk
-  walk-is = ap (λ (u : Tables). u .walk) e ∙ tables-walk f
-
-  pub walk-terms : t .walk .terms ≡ moduleOf f .terms
-  unfolding moduleOf
-  walk-terms = rw walk-is
-
-  pub walk-structs : t .walk .names ≡ moduleOf f .structs
-  unfolding moduleOf
-  walk-structs = rw walk-is
-
-  pub walk-functions : t .walk .functions ≡ moduleOf f .functions
-  unfolding moduleOf
-  walk-functions = rw walk-is
 
 -- ---- the tables of an accepted file
 

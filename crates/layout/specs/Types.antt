@@ -2,13 +2,12 @@
 -- used), good trees under it. Assumes nothing.
 use mathlib.Core.Path.{_≡_, refl, ap, ap₂}
 use mathlib.Core.List.{List, [], _∷_, map}
-use Prim.Native.Nat.{ℕ, _<_, _≤_}
-use native.Mathlib.Omega.{arith}
+use Prim.Native.Nat.{ℕ, _<_}
 use lib.ListN.{length}
 use Rattle.words.specs.Decide.{Each}
 use Rattle.rules.specs.Types.{RegionKind, variable, Region, Variable, region, Tree, int, ptr, arr, struct, width, sub, arg, nowhere, form, Uses, in-int, in-ptr, in-arr, in-struct, Primitive, integer, pointer}
 use Rattle.rules.specs.Heap.{close}
-use Rattle.layout.specs.Lists.{each-at, each-map, each-weaken, map-map, map-each, getD-map}
+use Rattle.layout.specs.Lists.{each-at, each-map, map-map, map-each, getD-map}
 
 -- ---- equal substitutions
 
@@ -92,12 +91,6 @@ uses-sub m n σ f (int w) u = in-int
 uses-sub m n σ f (ptr T r) (in-ptr h u) = in-ptr (f r h) (uses-sub m n σ f T u)
 uses-sub m n σ f (arr c T) (in-arr u) = in-arr (uses-sub m n σ f T u)
 uses-sub m n σ f (struct N rs) (in-struct u) = in-struct (each-map σ f u)
-
-pub uses-more : (m n : ℕ) → m ≤ n → (T : Tree variable) → Uses m T → Uses n T
-uses-more m n l (int w) u = in-int
-uses-more m n l (ptr T r) (in-ptr h u) = in-ptr {r = r} (omega arith) (uses-more m n l T u)
-uses-more m n l (arr c T) (in-arr u) = in-arr (uses-more m n l T u)
-uses-more m n l (struct N rs) (in-struct u) = in-struct (each-weaken (λ r h. omega arith) u)
 
 -- P of the region that a pointer type points into
 abbrev pub Outer : {k : RegionKind} → (ℕ → Type 0) → Tree k → Type 0

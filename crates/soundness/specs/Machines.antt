@@ -1,22 +1,22 @@
 -- Machines that must have no proof (document 01, conditions of acceptance): one that leaves the state as opened, one that runs the first
 -- call's budget and only reports later ones, one that invents its step count, one that stops with 34 while a page is free. A contract
 -- says that going on is `goOf`, and no such machine is. (One that says running early: `running-whole`, ForCode.) Assumes nothing.
-use mathlib.Core.Path.{_≡_, refl, sym, ap, _∙_, subst}
-use mathlib.Core.Bool.{Bool, true, false, not, cond}
+use mathlib.Core.Path.{_≡_, sym, ap, _∙_, subst}
+use mathlib.Core.Bool.{false, not}
 use mathlib.Core.Logic.{_≢_}
 use mathlib.Core.List.{[]}
-use Prim.Native.Nat.{ℕ, _+_, _-_, _<_, _≤_}
+use Prim.Native.Nat.{ℕ, _-_, _<_, _≤_}
 use native.Mathlib.Omega.{arith}
-use lib.Dec.{eqb, ltb}
+use lib.Dec.{eqb}
 use lib.ListN.{replicate, length-replicate}
 use borrow.Author.Tests.{eq-eqb}
 use Rattle.words.specs.Bytes.{Bytes}
 use Rattle.words.specs.FirstLaws.{firstFrom-least}
-use Rattle.words.specs.Choose.{cond-eq, split-lt, true-not-false}
-use Rattle.rules.specs.Limits.{noPage, outputBytes, stateBytes}
+use Rattle.words.specs.Choose.{cond-eq, split-lt, true-not-false, not-true}
+use Rattle.rules.specs.Limits.{outputBytes, stateBytes}
 use Rattle.rules.specs.Decode.{moduleOf}
 use Rattle.rules.specs.State.{view}
-use Rattle.rules.specs.Step.{Effect, stop, takePlace, grantPage, hasRoom, roomPage, unownedPage, unusedPlace, allocate}
+use Rattle.rules.specs.Step.{Effect, stop, hasRoom, roomPage, unownedPage, allocate}
 use Rattle.rules.specs.Host.{Outcome, ended, running, Went, went, outcomeOf, goOf, firstState, leftState, leftOutput}
 use Rattle.rules.specs.CasesMachine as cases
 use Rattle.rules.specs.CasesMachine.{workedFile}
@@ -78,10 +78,6 @@ not-one-count k h =
 pub record Full (owner : ℕ → ℕ) (mark : ℕ → ℕ → ℕ) (lo hi r s : ℕ) : Type 0 where
   pub room : (p : ℕ) → lo ≤ p → p < hi → hasRoom owner mark r s p ≡ false
   pub free : (p : ℕ) → lo ≤ p → p < hi → owner p ≢ 0
-
-not-true : (b : Bool) → not b ≡ true → b ≡ false
-not-true true e = sym e
-not-true false e = refl
 
 module _ (owner : ℕ → ℕ) (mark : ℕ → ℕ → ℕ) (lo hi r s a n : ℕ) (l : lo ≤ hi) where
   pub full-when-stopped : allocate owner mark lo hi r s a ≡ stop n → Full owner mark lo hi r s

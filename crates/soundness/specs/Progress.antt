@@ -1,7 +1,7 @@
 -- Progress: in a good state of a well-typed module the next effect is safe, so it is not stuck. One case for each kind; the typing rule
 -- is the step's one static guard, and each other guard is a fact of the state. Assumes nothing.
 use mathlib.Core.Path.{_≡_, refl, sym, ap, _∙_, subst}
-use mathlib.Core.Bool.{Bool, true, false, cond, not}
+use mathlib.Core.Bool.{cond, not}
 use mathlib.Core.Logic.{inl, inr, _≢_}
 use mathlib.Core.List.{List}
 use Prim.Native.Nat.{ℕ, zero, suc, _+_, _*_, _-_, _^_, _/_, _%_, _<_, _≤_}
@@ -13,11 +13,11 @@ use lib.ListN.{length, getD, List·getD-eq-default}
 use borrow.Author.Tests.{ltb-true, eqb-true}
 use Rattle.words.specs.Bytes.{Bytes, AllBytes, byteAt}
 use Rattle.words.specs.FirstLaws.{firstFrom-least}
-use Rattle.words.specs.Choose.{cond-lt, cond-nlt, cond-split, split-lt, split-eq, both, true-not-false}
+use Rattle.words.specs.Choose.{cond-lt, cond-nlt, cond-split, split-lt, split-eq, both, not-false}
 use Rattle.rules.specs.Limits.{pages, pageBytes, firstPage, pastPage, mostFrames, outputBytes}
 use Rattle.words.specs.Decide.{does, does-true, decAll}
 use Rattle.rules.specs.Types.{variable, live, Variable, region, Tree, int, ptr, arr, sub, width, arg, Uses, in-ptr, Primitive}
-use Rattle.rules.specs.Module.{Module, Function, regions, argument, Instruction, operate, address, check, new, call}
+use Rattle.rules.specs.Module.{Module, Function, regions, argument, Instruction, operate, check, new, call}
 use Rattle.rules.specs.Flat.{flat, size, distance, Same}
 use Rattle.rules.specs.Typing.{_⊢_∶_, Typed, t-constant, t-copy, t-operate, t-quotient, t-compare, t-zeroExtend, t-signExtend, t-address, t-checkInteger, t-checkPointer, t-field, t-index, t-load, t-store, t-new, t-free, t-input, t-output, t-jump, t-branch, t-call, t-return}
 use Rattle.rules.specs.Decision.{decTyped}
@@ -83,10 +83,6 @@ places-fit s j h l =
     let a : s * suc j ≤ s * (pageBytes / s) = mul-le-mul-left s l in
     let b : s * (pageBytes / s) + pageBytes % s ≡ pageBytes = div-add-mod pageBytes s in
     omega (arith, a, b)
-
-room-found : (b : Bool) → not b ≡ false → b ≡ true
-room-found true e = refl
-room-found false e = absurd (true-not-false refl e)
 
 -- ---- the kinds
 
@@ -258,7 +254,7 @@ module _ (m : Module) (ok : ModuleOk m) (form : Bytes) (bytes : AllBytes form) (
       old : p < pastPage → Safe m v k (takePlace p (unusedPlace (v .owner) (v .mark) s p) a (pageBytes * p + s * unusedPlace (v .owner) (v .mark) s p))
       old h =
           let l = firstFrom-least (λ p. not (hasRoom (v .owner) (v .mark) i s p)) firstPage (pastPage - firstPage) in
-          let b = room-found (hasRoom (v .owner) (v .mark) i s p) (l .fails h) in
+          let b = not-false (hasRoom (v .owner) (v .mark) i s p) (l .fails h) in
           let c = both (eqb (v .owner p) (suc i)) (ltb (unusedPlace (v .owner) (v .mark) s p) (placesInPage s)) b in
           let own : v .owner p ≡ suc i = eqb-true (v .owner p) (suc i) (c .0) in
           let j : ℕ = unusedPlace (v .owner) (v .mark) s p in
@@ -277,7 +273,7 @@ module _ (m : Module) (ok : ModuleOk m) (form : Bytes) (bytes : AllBytes form) (
       fresh : q < pastPage → Safe m v k (grantPage q i a)
       fresh h =
           let l = firstFrom-least (λ p. not (eqb (v .owner p) 0)) firstPage (pastPage - firstPage) in
-          let z : v .owner q ≡ 0 = eqb-true (v .owner q) 0 (room-found (eqb (v .owner q) 0) (l .fails h)) in
+          let z : v .owner q ≡ 0 = eqb-true (v .owner q) 0 (not-false (eqb (v .owner q) 0) (l .fails h)) in
           let at : pageBytes * q + s * 0 ≡ pageBytes * q = omega arith in
           let run = object-run (heapTyping m (granted q i v) (suc k)) refl a T r ra e q 0 h (upd-same (v .owner) q (suc i)) (omega (arith, region-size (r .number) scope .1)) in
           record {

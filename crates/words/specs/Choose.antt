@@ -164,6 +164,14 @@ neither false b e = (refl, e)
 pub neither-of : {a b : Bool} → a ≡ false → b ≡ false → a || b ≡ false
 neither-of {a} {b} p q = ap (λ (x : Bool). x || b) p ∙ q
 
+pub not-true : (b : Bool) → not b ≡ true → b ≡ false
+not-true true e = absurd (false≢true e)
+not-true false e = refl
+
+pub not-false : (b : Bool) → not b ≡ false → b ≡ true
+not-false true e = refl
+not-false false e = absurd (true≢false e)
+
 -- `not a || b`: where a holds, b is asked
 pub asks : (a b : Bool) → a ≡ true → not a || b ≡ true → b ≡ true
 asks true b e h = h

@@ -18,6 +18,10 @@ pub does-true : {A : Type 0} (d : Dec A) → does d ≡ true → A
 does-true (yes a) e = a
 does-true (no n) e = absurd (mathlib.Core.Bool.false≢true e)
 
+pub true-does : {A : Type 0} (d : Dec A) → A → does d ≡ true
+true-does (yes a) h = refl
+true-does (no n) h = absurd (n h)
+
 pub does-false : {A : Type 0} (d : Dec A) → does d ≡ false → ¬ A
 does-false (yes a) e = absurd (mathlib.Core.Bool.false≢true (sym e))
 does-false (no n) e = n

@@ -1,13 +1,9 @@
 -- `check_numbers` meets its contract: the verdict's case by case, its counts small.
-use mathlib.Core.Path.{_≡_, refl, sym, ap, _∙_, subst}
-use Rattle.rules.specs.Host.{checkNumbers}
+use mathlib.Core.Path.{refl, subst}
 use Rattle.rcm.specs.Answer.{SmallCounts}
 use borrow.Author.Needs.{needs}
 use Rattle.rcm.proofs.check_numbers.Statement.{statement}
 use Rattle.rcm.proofs.check_numbers.Tie as tie
-use Rattle.rcm.proofs.check_numbers.Reads as reads
-use Rattle.rcm.proofs.check_numbers.Lts as lts
-use Rattle.rcm.proofs.packed.Reads as packed-reads
 
 -- src/lib.rt:24:29
 enum-known-v : tie.Need-enum-known-v

@@ -1,14 +1,10 @@
 -- `rcm_check` meets its contract: the numbers of the verdict on the file.
-use mathlib.Core.Path.{_≡_, sym, ap, _∙_}
+use mathlib.Core.Path.{ap, _∙_}
 use Rattle.rules.specs.Host.{checkNumbers}
 use Rattle.rcm.specs.Answer.{small-counts}
 use borrow.Author.Needs.{needs}
 use Rattle.rcm.proofs.rcm_check.Statement.{statement}
 use Rattle.rcm.proofs.rcm_check.Tie as tie
-use Rattle.rcm.proofs.rcm_check.Reads as reads
-use Rattle.rcm.proofs.rcm_check.Lts as lts
-use Rattle.checker.proofs.verdict.Reads as verdict-reads
-use Rattle.rcm.proofs.check_numbers.Reads as check-numbers-reads
 
 -- src/lib.rt:36:9
 verdict-requires : tie.Need-verdict-requires
