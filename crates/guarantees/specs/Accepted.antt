@@ -1,5 +1,5 @@
 -- What an accepted file gives to the code that reads its tables: what refusals 1 to 4 have made sure of, and that the counts of the
--- verdict are the walk's. Assumes nothing but that the verdict accepts, where it says so.
+-- verdict are the module's. Assumes nothing but that the verdict accepts, where it says so.
 use mathlib.Core.Path.{_≡_, sym, ap, _∙_, subst}
 use mathlib.Core.List.{List}
 use Prim.Native.Nat.{ℕ}
