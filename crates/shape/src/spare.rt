@@ -1,6 +1,7 @@
 // "spare bytes zero": behind the header, behind the frames, frames not in use, and in a frame what its function does not have.
 ghost use mathlib.Core.Path.{_≡_};
-ghost use Prim.Native.Nat.{ℕ, _<_};
+ghost use Prim.Native.Nat.{ℕ, _<_, _≤_};
+ghost use lib.ListN.{length};
 ghost use Rattle.rules.specs.Limits.{mostFrames};
 ghost use Rattle.stack.specs.Tells.{Tells};
 ghost use Rattle.stack.specs.Facts.{Known};
@@ -21,24 +22,30 @@ const SPARE_IN: usize = 122;
 
 const STACK_END: usize = 4224;
 
-fn zero_at(s: &[u8], from: usize, i: usize) -> bool
-    ensures { λ b. ⌜ Tells b (ZeroFrom (now (s .entry)) from i) ⌝ }
+// The bytes from .. to - 1 are zero, of those that there are. (No byte ends the loop, so that many are compared at once.)
+fn zero_in(s: &[u8], from: usize, to: usize) -> bool
+    requires { ⌜ to ≤ length (now s) ⌝ }
+    ensures { λ b. ⌜ Tells b ((i : ℕ) → i < to → ZeroFrom (now (s .entry)) from i) ⌝ }
 {
-    (i < from) | (words::byte(s, i) == 0)
+    let mut all = true;
+    let mut i = from;
+    while i < to {
+        all = all & (s[i] == 0);
+        i += 1;
+    }
+    all
 }
 
-// The bytes from .. to - 1 are zero.
+// The bytes from .. to - 1 are zero: past the last a byte is 0.
 pub fn zero(s: &[u8], from: usize, to: usize) -> bool
     ensures { λ b. ⌜ Tells b ((i : ℕ) → i < to → ZeroFrom (now (s .entry)) from i) ⌝ }
 {
-    let mut i = from;
-    while i < to {
-        if !zero_at(s, from, i) {
-            return false;
-        }
-        i += 1;
+    let n = s.len();
+    if to <= n {
+        zero_in(s, from, to)
+    } else {
+        zero_in(s, from, n)
     }
-    true
 }
 
 // A frame in use: registers and map entries that its function does not have, and its last bytes.
