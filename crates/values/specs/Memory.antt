@@ -11,18 +11,23 @@ use Rattle.words.specs.ByteLaws.{length-listOf}
 use Rattle.rules.specs.Limits.{pageBytes, mostRegions}
 use Rattle.rules.specs.Types.{variable, live, Variable, Region, Tree, int, ptr, arr, struct, form, inner, regionOf, width, sub}
 use Rattle.rules.specs.Module.{Module}
+use Rattle.rules.specs.Flat.{flat}
 use Rattle.rules.specs.Decode.{moduleOf}
 use Rattle.rules.specs.State.{view, pageOwner, memoryByte, memoryNumber, frameMap}
 use Rattle.rules.specs.Heap.{HeapTyping, Stands, decStands, Value}
 use Rattle.state.specs.Reads.{memory-lt}
 use Rattle.terms.specs.Compare.{byteUnder, under, under-is}
 use Rattle.terms.specs.Readers.{Inner}
+use Rattle.terms.specs.Extents.{Small}
+use Rattle.terms.specs.declared.Extent.{Extent}
+use Rattle.runs.specs.Table.{exactOf}
 use Rattle.runs.specs.Runs.{StandsIs}
 use Rattle.stack.specs.Tells.{Tells, tells-map, tells-yes, does-tells}
 use Rattle.objects.specs.Homes.{HomeIs}
 use Rattle.objects.specs.declared.Home.{Home}
 use Rattle.runs.specs.Maps.{Narrow, mapList, under-close}
 use Rattle.values.specs.Value.{typingOf}
+use Rattle.values.specs.Memo.{SizeIs}
 use Rattle.values.specs.declared.memory.Target.{Target}
 
 -- ---- numbers in the pages
@@ -75,7 +80,7 @@ module _ {f s : Bytes} {n : ℕ} {to : Bytes} {t x : ℕ} where
   pub integer-at : AllBytes s → form (moduleOf f .term t) ≡ 1 → PrimitiveAt f s n to t x
   integer-at all e = record { is = integer (moduleOf f) (typingOf f s n) (under to) (view s .memory) x (moduleOf f .term t) e (memory-fits s all x) }
 
--- ---- where pointers of term t under `to` lead: found once for all places of a page
+-- ---- where pointers of term t under `to` lead: found once for all places of a region's pages
 
 pub record TargetIs (f s : Bytes) (n : ℕ) (to : Bytes) (t : ℕ) (g : Target) : Type 0 where
   pub pointer : form (moduleOf f .term t) ≡ 2
@@ -83,13 +88,21 @@ pub record TargetIs (f s : Bytes) (n : ℕ) (to : Bytes) (t : ℕ) (g : Target) 
   pub run : moduleOf f .term (g .run) ≡ inner (moduleOf f .term t)
   pub home : HomeIs f s n (g .region) (record { frame = g .frame; term = g .term })
   pub map : g .frame ≢ 0 → g .map ≡ mapList s (g .frame - 1)
+  pub size : SizeIs f (g .term) (g .size)
 
-pub target-is : {f s : Bytes} {n : ℕ} {to : Bytes} {t u r w run : ℕ} {h : Home} {map : Bytes} → form (moduleOf f .term t) ≡ 2 → u ≡ regionOf (moduleOf f .term t) .number → r ≡ byteUnder to u
-    → w ≡ r → HomeIs f s n w h → (h .frame ≢ 0 → map ≡ mapList s (h .frame - 1)) → Inner f (moduleOf f .term t) run
-    → TargetIs f s n to t (record { region = r; frame = h .frame; term = h .term; map = map; run = run })
-target-is {f} {s} {n} {to} {h = h} e eu er ew home em i =
+pub target-is : {f s : Bytes} {n : ℕ} {to : Bytes} {t u r w run : ℕ} {h : Home} {map : Bytes} {e : Extent} → form (moduleOf f .term t) ≡ 2 → u ≡ regionOf (moduleOf f .term t) .number → r ≡ byteUnder to u
+    → w ≡ r → HomeIs f s n w h → (h .frame ≢ 0 → map ≡ mapList s (h .frame - 1)) → (e ≡ exactOf (flat (moduleOf f) (moduleOf f .term (h .term)))) × Small e → Inner f (moduleOf f .term t) run
+    → TargetIs f s n to t (record { region = r; frame = h .frame; term = h .term; map = map; size = e .size; run = run })
+target-is {f} {s} {n} {to} {h = h} e eu er ew home em ee i =
     let z = rw ew at home in
-    record { pointer = e; region = er ∙ ap (byteUnder to) eu; run = i .pointer e; home = record { none = z .none; some = z .some }; map = em }
+    record {
+      pointer = e;
+      region = er ∙ ap (byteUnder to) eu;
+      run = i .pointer e;
+      home = record { none = z .none; some = z .some };
+      map = em;
+      size = record { is = ap (λ (x : Extent). x .size) (ee .0); small = ee .1 .0 };
+    }
 
 module _ {f s : Bytes} {n : ℕ} {to : Bytes} {t x : ℕ} {g : Target} (is : TargetIs f s n to t g) {v : ℕ} (ev : v ≡ memoryNumber (view s .memory) x 4) where
   pub pointer-zero : v ≡ 0 → PrimitiveAt f s n to t x

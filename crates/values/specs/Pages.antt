@@ -1,12 +1,14 @@
--- The primitives of owned pages, from tests of one primitive at a time: page by page, position by position, place by place. A
--- position has the same term in each place of its page, so that it is found once for all of them. Assumes nothing.
+-- The primitives of owned pages, from tests of one primitive at a time: region by region, position by position, page by page, place by
+-- place. A position has the same term in each place of its region's pages, so that it is found once for all of them. Assumes nothing.
 use mathlib.Core.Path.{_≡_, refl, sym, ap, subst, _∙_}
-use mathlib.Core.Bool.{Bool, true}
+use mathlib.Core.Bool.{Bool, true, not}
 use mathlib.Core.List.{List}
-use mathlib.Core.Logic.{_≢_, ⊎-elim}
-use Prim.Native.Nat.{ℕ, suc, _+_, _-_, _*_, _/_, _<_, _≤_}
+use mathlib.Core.Logic.{_≢_, _⊎_, inl, inr, ⊎-elim}
+use Prim.Native.Nat.{ℕ, zero, suc, _+_, _-_, _*_, _/_, _<_, _≤_}
 use native.Mathlib.Nat.{mul-suc, mul-comm, div-lt-iff-lt-mul, le-div-iff-mul-le}
+use native.Mathlib.Decide.{ℕ-discrete}
 use native.Mathlib.Omega.{arith}
+use lib.Dec.{eqb}
 use Rattle.words.specs.Bytes.{Bytes, AllBytes}
 use Rattle.words.specs.Choose.{lt-or-le}
 use Rattle.words.specs.Decide.{none, more}
@@ -30,7 +32,7 @@ use Rattle.runs.specs.TableLaws.{layout-term}
 use Rattle.runs.specs.Positions.{Keeps, Agree, Found, keeps-held}
 use Rattle.runs.specs.Runs.{found-nth, layout-under}
 use Rattle.runs.specs.Maps.{each-of, Narrow, mapList, under-close}
-use Rattle.stack.specs.Tells.{Tells, tells-map, tells-yes}
+use Rattle.stack.specs.Tells.{Tells, tells-map, tells-yes, tells-not, tells-eq}
 use Rattle.objects.specs.Homes.{regionTree, HomeIs, size-some}
 use Rattle.objects.specs.declared.Home.{Home}
 use Rattle.values.specs.Memory.{PrimitiveAt, integer-at, map-short}
@@ -144,17 +146,19 @@ module _ {f s : Bytes} {n p terms structs : ℕ} {o : Objects} (are : ObjectsAre
       ∙ found-nth f r (o .to) (termLayout f structs (o .place)) i found live
       ∙ ap (λ (L : Layout live). nth L i) (sym (are .layout))
 
-  pub position-by : {b : Bool} → Tells b ((j : ℕ) → j < pageBytes → PlaceOk f s n p (o .size) (r .to) t (r .off) j) → Tells b (PositionOk f s n p i)
-  position-by u =
+  position-to : ((j : ℕ) → j < pageBytes → PlaceOk f s n p (o .size) (r .to) t (r .off) j) → PositionOk f s n p i
+  position-to w =
       let z = are .size in
-      tells-map
-      (λ w. record { is = λ j h l. subst (λ (q : Placed live). PrimitiveOk (moduleOf f) (view s) n p (flat (moduleOf f) (pageTree f s n p)) j q) primitive (rw z at (w j h .is (rw z l)) .is) })
-      (λ w j h. record { is = λ l. record { is = rw z (subst (λ (q : Placed live). PrimitiveOk (moduleOf f) (view s) n p (flat (moduleOf f) (pageTree f s n p)) j q) (sym primitive) (w .is j h (rw z at l))) } })
-      u
+      record { is = λ j h l. subst (λ (q : Placed live). PrimitiveOk (moduleOf f) (view s) n p (flat (moduleOf f) (pageTree f s n p)) j q) primitive (rw z at (w j h .is (rw z l)) .is) }
+
+  position-back : PositionOk f s n p i → (j : ℕ) → j < pageBytes → PlaceOk f s n p (o .size) (r .to) t (r .off) j
+  position-back w j h =
+      let z = are .size in
+      record { is = λ l. record { is = rw z (subst (λ (q : Placed live). PrimitiveOk (moduleOf f) (view s) n p (flat (moduleOf f) (pageTree f s n p)) j q) (sym primitive) (w .is j h (rw z at l))) } }
 
   -- the bytes of an integer hold one of its values
-  pub position-integer : {kind : ℕ} → kind ≡ form (moduleOf f .term t) → AllBytes s → kind ≡ 1 → Tells true (PositionOk f s n p i)
-  position-integer ek all e = position-by (tells-yes (λ j h. record { is = λ l. integer-at all (sym ek ∙ e) }))
+  position-integer : {kind : ℕ} → kind ≡ form (moduleOf f .term t) → AllBytes s → kind ≡ 1 → PositionOk f s n p i
+  position-integer ek all e = position-to (λ j h. record { is = λ l. integer-at all (sym ek ∙ e) })
 
   -- what is no integer is a pointer
   pub position-pointer : {kind : ℕ} → kind ≡ form (moduleOf f .term t) → kind ≢ 1 → i < o .count → form (moduleOf f .term t) ≡ 2
@@ -165,38 +169,139 @@ module _ {f s : Bytes} {n p terms structs : ℕ} {o : Objects} (are : ObjectsAre
       (flat-has-prim (moduleOf f) (pageTree f s n p)
       (subst (λ (q : Placed live). Has (flat (moduleOf f) (pageTree f s n p) .prims) (off q) (type q)) (sym primitive) (at-has (flat (moduleOf f) (pageTree f s n p) .prims) i (at 0 (int 0)) (omega arith))))
 
--- ---- page by page
+-- ---- page by page: those of one owner
 
-pub page-none : {f s : Bytes} {n p o : ℕ} → o ≡ pageOwner s p → o ≡ 0 → PagePrimitives f s n p
-unfolding view
-page-none {f} {s} {n} {p} eo z = record { is = subst (λ (x : ℕ). PageOk (moduleOf f) (view s) n p x) (sym (sym eo ∙ z)) tt }
+-- what holds of page p's objects holds of those of every page with its owner
+pub objects-at : {f s : Bytes} {n p q terms structs : ℕ} {o : Objects} → pageOwner s q ≡ pageOwner s p → ObjectsAre f s n p terms structs o → ObjectsAre f s n q terms structs o
+objects-at {f} {s} {n} e are =
+    let t : pageTree f s n _ ≡ pageTree f s n _ = ap (λ (x : ℕ). regionTree f s n (x - 1)) (sym e) in
+    record {
+      low = are .low;
+      keeps = are .keeps;
+      size = are .size ∙ ap (size (moduleOf f)) t;
+      count = are .count;
+      layout = ap (flat (moduleOf f)) (sym t) ∙ are .layout;
+    }
 
-owned : (s : Bytes) (p o : ℕ) → o ≡ pageOwner s p → o ≢ 0 → suc (o - 1) ≡ pageOwner s p
-owned s p o eo d = omega (arith, d)
+-- each place of page q, if its owner is x
+pub record OwnedPlaces (f s : Bytes) (n x z : ℕ) (to : Bytes) (t d q : ℕ) : Type 0 where
+  pub is : pageOwner s q ≡ x → (j : ℕ) → j < pageBytes → PlaceOk f s n q z to t d j
 
-module _ {f s : Bytes} {n p o : ℕ} (eo : o ≡ pageOwner s p) (d : o ≢ 0) where
-  -- a region that is not live has no bytes: nothing is asked of its pages
-  pub page-dead : {h : Home} → HomeIs f s n (o - 1) h → h .frame ≡ 0 → PagePrimitives f s n p
-  unfolding view flat flatWith memoryNumber
-  page-dead w e =
-      let z : 0 < 1 = omega arith in
-      record { is = subst (λ (x : ℕ). PageOk (moduleOf f) (view s) n p x) (owned s p o eo d) (rw (w .none e) (λ j h l. more z none)) }
+pub places-other : {f s : Bytes} {n x z : ℕ} {to : Bytes} {t d q o : ℕ} → o ≡ pageOwner s q → o ≢ x → Tells true (OwnedPlaces f s n x z to t d q)
+places-other e h = tells-yes (record { is = λ k. absurd (h (e ∙ k)) })
 
-  pub page-by : {terms structs : ℕ} {a : Objects} {b : Bool} → ObjectsAre f s n p terms structs a → Tells b ((i : ℕ) → i < a .count → PositionOk f s n p i) → Tells b (PagePrimitives f s n p)
-  unfolding view
-  page-by {terms} {structs} {a} are t =
-      let T : Tree live = regionTree f s n (o - 1) in
-      let q : pageTree f s n p ≡ T = ap (λ (x : ℕ). regionTree f s n (x - 1)) (sym eo) in
-      let c : a .count ≡ count (flat (moduleOf f) T) =
-      are .count ∙ sym (count-sub (under {k = live} (a .to)) (termLayout f structs (a .place))) ∙ ap (λ (L : Layout live). count L) (sym (are .layout) ∙ ap (flat (moduleOf f)) q) in
+pub places-owned : {f s : Bytes} {n x z : ℕ} {to : Bytes} {t d q o : ℕ} {b : Bool} → o ≡ pageOwner s q → o ≡ x
+    → Tells b ((j : ℕ) → j < pageBytes → PlaceOk f s n q z to t d j) → Tells b (OwnedPlaces f s n x z to t d q)
+places-owned e h u = tells-map (λ w. record { is = λ k. w }) (λ w. w .is (sym e ∙ h)) u
+
+-- primitive i of each object of each page with page p's owner
+pub record OwnedPosition (f s : Bytes) (n p i : ℕ) : Type 0 where
+  pub is : (q : ℕ) → q < pages → pageOwner s q ≡ pageOwner s p → PositionOk f s n q i
+
+module _ {f s : Bytes} {n p terms structs : ℕ} {o : Objects} (are : ObjectsAre f s n p terms structs o) {tab : List ℕ} (table : Table f terms structs tab) (i : ℕ) (r : Primitive)
+    (found : Found f r (o .to) 0 (nth (termLayout f structs (o .place)) i)) (t : ℕ) (et : placeOf terms t ≡ r .place) where
+  pub owned-by : {b : Bool} {x : ℕ} → x ≡ pageOwner s p → Tells b ((q : ℕ) → q < pages → OwnedPlaces f s n x (o .size) (r .to) t (r .off) q) → Tells b (OwnedPosition f s n p i)
+  owned-by ex u =
       tells-map
-      (λ w.
+      (λ w. record { is = λ q h e. position-to (objects-at e are) table i r found t et (w q h .is (e ∙ sym ex)) })
+      (λ w q h. record { is = λ e. position-back (objects-at (e ∙ ex) are) table i r found t et (w .is q h (e ∙ ex)) })
+      u
+
+  pub owned-integer : {kind : ℕ} → kind ≡ form (moduleOf f .term t) → AllBytes s → kind ≡ 1 → Tells true (OwnedPosition f s n p i)
+  owned-integer ek all k = tells-yes (record { is = λ q h e. position-integer (objects-at e are) table i r found t et ek all k })
+
+-- ---- region by region: a page whose owner no page before it has stands for all pages of its owner
+
+pub record Apart (s : Bytes) (x q : ℕ) : Type 0 where
+  pub is : pageOwner s q ≢ x
+
+pub apart-by : {s : Bytes} {x q o : ℕ} → o ≡ pageOwner s q → Tells (not (eqb o x)) (Apart s x q)
+apart-by {s} {x} {q} {o} e = tells-map (λ w. record { is = λ k. w (e ∙ k) }) (λ w k. w .is (sym e ∙ k)) (tells-not (tells-eq o x))
+
+pub record Leads (f s : Bytes) (n p : ℕ) : Type 0 where
+  pub is : ((q : ℕ) → q < p → Apart s (pageOwner s p) q) → (q : ℕ) → q < pages → pageOwner s q ≡ pageOwner s p → PagePrimitives f s n q
+
+page-none : (f s : Bytes) (n p : ℕ) → pageOwner s p ≡ 0 → PagePrimitives f s n p
+unfolding view
+page-none f s n p z = record { is = subst (λ (x : ℕ). PageOk (moduleOf f) (view s) n p x) (sym z) tt }
+
+owned : (s : Bytes) (p : ℕ) → pageOwner s p ≢ 0 → suc (pageOwner s p - 1) ≡ pageOwner s p
+owned s p d = omega (arith, d)
+
+module _ (f s : Bytes) (n p : ℕ) (d : pageOwner s p ≢ 0) where
+  -- a region that is not live has no bytes: nothing is asked of its pages
+  page-dead : regionTree f s n (pageOwner s p - 1) ≡ int 0 → PagePrimitives f s n p
+  unfolding view flat flatWith memoryNumber
+  page-dead e =
+      let z : 0 < 1 = omega arith in
+      record { is = subst (λ (x : ℕ). PageOk (moduleOf f) (view s) n p x) (owned s p d) (rw e (λ j h l. more z none)) }
+
+  module _ {terms structs : ℕ} {a : Objects} (are : ObjectsAre f s n p terms structs a) where
+    counted : a .count ≡ count (flat (moduleOf f) (pageTree f s n p))
+    counted =
+        are .count ∙ sym (count-sub (under {k = live} (a .to)) (termLayout f structs (a .place))) ∙ ap (λ (L : Layout live). count L) (sym (are .layout))
+
+    page-to : ((i : ℕ) → i < a .count → PositionOk f s n p i) → PagePrimitives f s n p
+    unfolding view
+    page-to w =
+        let c = counted in
+        record {
+          is = subst (λ (x : ℕ). PageOk (moduleOf f) (view s) n p x) (owned s p d)
+              (λ j h l. each-of (at 0 (int 0)) (flat (moduleOf f) (pageTree f s n p) .prims) (λ i k. w i (omega arith) .is j h l));
+        }
+
+    page-back : PagePrimitives f s n p → (i : ℕ) → i < a .count → PositionOk f s n p i
+    unfolding view
+    page-back w i k =
+        let c = counted in
+        record { is = λ j h l. each-at i (at 0 (int 0)) (omega arith) (subst (λ (x : ℕ). PageOk (moduleOf f) (view s) n p x) (sym (owned s p d)) (w .is) j h l) }
+
+module _ {f s : Bytes} {n p o : ℕ} (eo : o ≡ pageOwner s p) where
+  pub leads-none : o ≡ 0 → Leads f s n p
+  leads-none z = record { is = λ u q h e. page-none f s n q (e ∙ sym eo ∙ z) }
+
+  pub leads-seen : ¬ ((q : ℕ) → q < p → Apart s o q) → Leads f s n p
+  leads-seen seen = record { is = λ u. absurd (seen (rw eo u)) }
+
+  pub leads-dead : {h : Home} → o ≢ 0 → HomeIs f s n (o - 1) h → h .frame ≡ 0 → Leads f s n p
+  leads-dead d w z =
       record {
-        is = subst (λ (x : ℕ). PageOk (moduleOf f) (view s) n p x) (owned s p o eo d)
-            (λ j h l. each-of (at 0 (int 0)) (flat (moduleOf f) T .prims) (λ i k. rw q at (w i (omega arith) .is) j h l));
-      })
-      (λ w i k. record { is = rw q (λ j h l. each-at i (at 0 (int 0)) (omega arith) (subst (λ (x : ℕ). PageOk (moduleOf f) (view s) n p x) (sym (owned s p o eo d)) (w .is) j h l)) })
+        is = λ u q h e.
+            let eq : pageOwner s q ≡ o = e ∙ sym eo in
+            page-dead f s n q (λ k. d (sym eq ∙ k)) (ap (λ (x : ℕ). regionTree f s n (x - 1)) eq ∙ w .none z);
+      }
+
+  pub leads-by : {terms structs : ℕ} {a : Objects} {b : Bool} → o ≢ 0 → p < pages → ((q : ℕ) → q < p → Apart s o q) → ObjectsAre f s n p terms structs a
+      → Tells b ((i : ℕ) → i < a .count → OwnedPosition f s n p i) → Tells b (Leads f s n p)
+  leads-by d l u are t =
+      tells-map
+      (λ w. record { is = λ v q h e. page-to f s n q (λ k. d (eo ∙ sym e ∙ k)) (objects-at e are) (λ i k. w i k .is q h e) })
+      (λ w i k. record { is = λ q h e. page-back f s n q (λ k. d (eo ∙ sym e ∙ k)) (objects-at e are) (w .is (rw (← eo) u) q h e) i k })
       t
 
-pub all-by : {f s : Bytes} {n : ℕ} {b : Bool} → n ≡ view s .frames → Tells b ((p : ℕ) → p < pages → PagePrimitives f s n p) → Tells b (AllPrimitives f s)
-all-by {f} {s} {n} e t = tells-map (λ w. record { each = λ p h. w p h .is }) (λ w p h. record { is = w .each p h }) (rw e at t)
+-- the first page with owner x, of those before k
+record First (s : Bytes) (x k : ℕ) : Type 0 where
+  page : ℕ
+  below : page < k
+  has : pageOwner s page ≡ x
+  apart : (q : ℕ) → q < page → Apart s x q
+
+first : (s : Bytes) (x k : ℕ) → First s x k ⊎ ((q : ℕ) → q < k → Apart s x q)
+first s x zero = inr (λ q h. absurd (omega arith))
+first s x (suc k) = go (first s x k) (ℕ-discrete (pageOwner s k) x)
+  where
+    go : First s x k ⊎ ((q : ℕ) → q < k → Apart s x q) → Dec (pageOwner s k ≡ x) → First s x (suc k) ⊎ ((q : ℕ) → q < suc k → Apart s x q)
+    go (inl w) d = inl (record { page = w .page; below = (let l = w .below in omega arith); has = w .has; apart = w .apart })
+    go (inr n) (yes e) = inl (record { page = k; below = omega arith; has = e; apart = n })
+    go (inr n) (no d) = inr (λ q h. ⊎-elim (n q) (λ l. let e : q ≡ k = omega arith in rw e (record { is = d })) (lt-or-le q k))
+
+led : {f s : Bytes} {n : ℕ} → ((p : ℕ) → p < pages → Leads f s n p) → (q : ℕ) → q < pages → PagePrimitives f s n q
+led {f} {s} {n} w q l = go (first s (pageOwner s q) (suc q))
+  where
+    go : First s (pageOwner s q) (suc q) ⊎ ((z : ℕ) → z < suc q → Apart s (pageOwner s q) z) → PagePrimitives f s n q
+    go (inl a) = w (a .page) (let b = a .below in omega arith) .is (rw (a .has) (a .apart)) q l (sym (a .has))
+    go (inr a) = absurd (a q (omega arith) .is refl)
+
+pub all-by : {f s : Bytes} {n : ℕ} {b : Bool} → n ≡ view s .frames → Tells b ((p : ℕ) → p < pages → Leads f s n p) → Tells b (AllPrimitives f s)
+all-by {f} {s} {n} e t =
+    tells-map (λ w. record { each = λ p h. led w p h .is }) (λ w p h. record { is = λ u q l k. record { is = w .each q l } }) (rw e at t)

@@ -15,6 +15,7 @@ ghost use Rattle.runs.specs.Maps.{Narrow, mapList};
 ghost use Rattle.values.specs.Value.{typingOf};
 ghost use Rattle.values.specs.Registers.{ValueOk, RegisterOk, RegistersOk, AllRegisters, registerTerm};
 
+pub mod memo;
 pub mod memory;
 pub mod pages;
 

@@ -5,13 +5,14 @@ ghost use Prim.Native.Nat.{_-_, _<_, _^_};
 ghost use Rattle.rules.specs.Types.{form};
 ghost use Rattle.rules.specs.Decode.{moduleOf};
 ghost use Rattle.rules.specs.State.{view, memoryNumber};
-ghost use Rattle.terms.specs.Extents.{Terms};
 ghost use Rattle.runs.specs.Table.{Table};
 ghost use Rattle.stack.specs.Tells.{Tells};
 ghost use Rattle.stack.specs.Facts.{Known};
 ghost use Rattle.runs.specs.Maps.{Narrow, mapList};
 ghost use Rattle.values.specs.Memory.{PrimitiveAt, TargetIs};
+ghost use Rattle.values.specs.Memo.{Remembers};
 use crate::map_of;
+use crate::memo::stands_known;
 use objects::home_of;
 use state::Machine;
 use state::total::memory_byte;
@@ -40,6 +41,7 @@ pub struct Target {
     pub frame: u32,
     pub term: usize,
     pub map: [u8; 7],
+    pub size: usize,
     pub run: usize,
 }
 
@@ -59,12 +61,14 @@ pub fn target_of(
     starts: &[usize; CALLEES],
     functions: usize,
     terms: usize,
+    structs: usize,
+    tab: &[u64],
     s: &[u8],
     n: u32,
     to: [u8; 8],
     t: usize,
 ) -> Target
-    requires { ⌜ Known (now f) (now starts) functions ⌝ ∗ ⌜ Terms (now f) terms ⌝ ∗ ⌜ form (moduleOf (now f) .term t) ≡ 2 ⌝ }
+    requires { ⌜ Known (now f) (now starts) functions ⌝ ∗ ⌜ Table (now f) terms structs (now tab) ⌝ ∗ ⌜ form (moduleOf (now f) .term t) ≡ 2 ⌝ }
     ensures { λ g. ⌜ TargetIs (now (f .entry)) (now (s .entry)) n to t g ⌝ }
 {
     let variable = target_region(f, terms, t);
@@ -73,12 +77,14 @@ pub fn target_of(
     let h = home_of(f, starts, functions, s, n, words::wide(region));
     let frame = h.frame;
     let map = map_before(s, frame);
+    let e = runs::extent_at(terms, h.term, tab, f, structs);
     let run = inner(f, terms, t);
     Target {
         region,
         frame,
         term: h.term,
         map,
+        size: e.size,
         run,
     }
 }
@@ -95,9 +101,10 @@ pub fn pointer_ok(
     t: usize,
     g: Target,
     x: u32,
+    memo: &mut [u8; 256],
 ) -> bool
-    requires { ⌜ Table (now f) terms structs (now tab) ⌝ ∗ ⌜ Narrow (now f) ⌝ ∗ ⌜ (TargetIs (now f) (now s) n to t g) × (x < 2 ^ 30) ⌝ }
-    ensures { λ b. ⌜ Tells b (PrimitiveAt (now (f .entry)) (now (s .entry)) n to t x) ⌝ }
+    requires { ⌜ Table (now f) terms structs (now tab) ⌝ ∗ ⌜ Narrow (now f) ⌝ ∗ ⌜ (TargetIs (now f) (now s) n to t g) × (x < 2 ^ 30) × (Remembers (now f) (g .term) (g .map) (g .run) to (now memo)) ⌝ }
+    ensures { λ b. ⌜ (Tells b (PrimitiveAt (now (f .entry)) (now (s .entry)) n to t x)) × (Remembers (now (f .entry)) (g .term) (g .map) (g .run) to (now (memo .exit))) ⌝ }
 {
     let v = word(s, x);
     if v == 0 {
@@ -108,7 +115,7 @@ pub fn pointer_ok(
     }
     let owner = state::total::owner(s, v / Machine::PAGE_BYTES);
     let map = g.map;
-    runs::stands(
+    stands_known(
         f,
         terms,
         structs,
@@ -116,9 +123,11 @@ pub fn pointer_ok(
         owner,
         g.term,
         &map,
+        g.size,
         v,
         g.run,
         &to,
         tab,
+        memo,
     )
 }

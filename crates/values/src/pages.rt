@@ -1,5 +1,5 @@
-// "each primitive in each owned page is a value of its type": page by page, position by position, place by place. What the objects
-// of a page are is found once a page, the primitive at a position and where it leads once for all places.
+// "each primitive in each owned page is a value of its type": region by region, position by position, page by page, place by place. What
+// the objects of a region are is found once, the primitive at a position and where it leads once for all its pages.
 ghost use mathlib.Core.Path.{_≡_};
 ghost use Prim.Native.Nat.{ℕ, suc, _-_, _*_, _<_, _≤_};
 ghost use Rattle.rules.specs.Limits.{pages, pageBytes};
@@ -12,7 +12,8 @@ ghost use Rattle.stack.specs.Facts.{Known};
 ghost use Rattle.objects.specs.Homes.{HomeIs};
 ghost use Rattle.values.specs.Memory.{TargetIs};
 ghost use Rattle.values.specs.Passes.{AllPrimitives};
-ghost use Rattle.values.specs.Pages.{PlacesIn, PlaceOk, PositionOk, PagePrimitives, ObjectsAre};
+ghost use Rattle.values.specs.Pages.{PlacesIn, PlaceOk, OwnedPlaces, OwnedPosition, Apart, Leads, ObjectsAre};
+ghost use Rattle.values.specs.Memo.{Remembers};
 use crate::map_of;
 use crate::memory::Target;
 use crate::memory::pointer_ok;
@@ -68,12 +69,13 @@ fn place_ok(
     d: usize,
     g: Target,
     j: usize,
+    memo: &mut [u8; 256],
 ) -> bool
-    requires { ⌜ Table (now f) terms structs (now tab) ⌝ ∗ ⌜ Narrow (now f) ⌝ ∗ ⌜ (p < pages) × (d ≤ 256) × (size * suc j ≤ pageBytes) × (TargetIs (now f) (now s) n to t g) ⌝ }
-    ensures { λ b. ⌜ Tells b (PlaceOk (now (f .entry)) (now (s .entry)) n p size to t d j) ⌝ }
+    requires { ⌜ Table (now f) terms structs (now tab) ⌝ ∗ ⌜ Narrow (now f) ⌝ ∗ ⌜ (p < pages) × (d ≤ 256) × (size * suc j ≤ pageBytes) × (TargetIs (now f) (now s) n to t g) × (Remembers (now f) (g .term) (g .map) (g .run) to (now memo)) ⌝ }
+    ensures { λ b. ⌜ (Tells b (PlaceOk (now (f .entry)) (now (s .entry)) n p size to t d j)) × (Remembers (now (f .entry)) (g .term) (g .map) (g .run) to (now (memo .exit))) ⌝ }
 {
     let x = Machine::PAGE_BYTES * p + (size * j + d) as u32;
-    pointer_ok(f, terms, structs, tab, s, n, to, t, g, x)
+    pointer_ok(f, terms, structs, tab, s, n, to, t, g, x, memo)
 }
 
 fn places_ok(
@@ -89,14 +91,15 @@ fn places_ok(
     t: usize,
     d: usize,
     g: Target,
+    memo: &mut [u8; 256],
 ) -> bool
-    requires { ⌜ Table (now f) terms structs (now tab) ⌝ ∗ ⌜ Narrow (now f) ⌝ ∗ ⌜ (p < pages) × (d ≤ 256) × (TargetIs (now f) (now s) n to t g) ⌝ }
-    ensures { λ b. ⌜ Tells b ((j : ℕ) → j < pageBytes → PlaceOk (now (f .entry)) (now (s .entry)) n p size to t d j) ⌝ }
+    requires { ⌜ Table (now f) terms structs (now tab) ⌝ ∗ ⌜ Narrow (now f) ⌝ ∗ ⌜ (p < pages) × (d ≤ 256) × (TargetIs (now f) (now s) n to t g) × (Remembers (now f) (g .term) (g .map) (g .run) to (now memo)) ⌝ }
+    ensures { λ b. ⌜ (Tells b ((j : ℕ) → j < pageBytes → PlaceOk (now (f .entry)) (now (s .entry)) n p size to t d j)) × (Remembers (now (f .entry)) (g .term) (g .map) (g .run) to (now (memo .exit))) ⌝ }
 {
     let many = places_in(size);
     let mut j = 0;
     while j < many {
-        if !place_ok(f, terms, structs, tab, s, n, p, size, to, t, d, g, j) {
+        if !place_ok(f, terms, structs, tab, s, n, p, size, to, t, d, g, j, memo) {
             return false;
         }
         j += 1;
@@ -104,7 +107,77 @@ fn places_ok(
     true
 }
 
-// Primitive i of each object of page p. (An integer's bytes always hold one of its values: nothing is read.)
+// The same of page q, if its owner is this one.
+fn owned_places(
+    f: &[u8],
+    terms: usize,
+    structs: usize,
+    tab: &[u64],
+    s: &[u8],
+    n: u32,
+    owner: u8,
+    size: usize,
+    to: [u8; 8],
+    t: usize,
+    d: usize,
+    g: Target,
+    q: u32,
+    memo: &mut [u8; 256],
+) -> bool
+    requires { ⌜ Table (now f) terms structs (now tab) ⌝ ∗ ⌜ Narrow (now f) ⌝ ∗ ⌜ (q < pages) × (d ≤ 256) × (TargetIs (now f) (now s) n to t g) × (Remembers (now f) (g .term) (g .map) (g .run) to (now memo)) ⌝ }
+    ensures { λ b. ⌜ (Tells b (OwnedPlaces (now (f .entry)) (now (s .entry)) n owner size to t d q)) × (Remembers (now (f .entry)) (g .term) (g .map) (g .run) to (now (memo .exit))) ⌝ }
+{
+    if state::total::owner(s, q) != owner {
+        return true;
+    }
+    places_ok(f, terms, structs, tab, s, n, q, size, to, t, d, g, memo)
+}
+
+// The same of each page with this owner.
+fn all_places(
+    f: &[u8],
+    terms: usize,
+    structs: usize,
+    tab: &[u64],
+    s: &[u8],
+    n: u32,
+    owner: u8,
+    size: usize,
+    to: [u8; 8],
+    t: usize,
+    d: usize,
+    g: Target,
+) -> bool
+    requires { ⌜ Table (now f) terms structs (now tab) ⌝ ∗ ⌜ Narrow (now f) ⌝ ∗ ⌜ (d ≤ 256) × (TargetIs (now f) (now s) n to t g) ⌝ }
+    ensures { λ b. ⌜ Tells b ((q : ℕ) → q < pages → OwnedPlaces (now (f .entry)) (now (s .entry)) n owner size to t d q) ⌝ }
+{
+    let mut memo = [0u8; 256];
+    let mut q = 0;
+    while q < Machine::PAGES {
+        if !owned_places(
+            f,
+            terms,
+            structs,
+            tab,
+            s,
+            n,
+            owner,
+            size,
+            to,
+            t,
+            d,
+            g,
+            q,
+            &mut memo,
+        ) {
+            return false;
+        }
+        q += 1;
+    }
+    true
+}
+
+// Primitive i of each object of each page with page p's owner. (An integer's bytes always hold one of its values: nothing is read.)
 fn position_ok(
     f: &[u8],
     starts: &[usize; CALLEES],
@@ -119,7 +192,7 @@ fn position_ok(
     i: usize,
 ) -> bool
     requires { ⌜ Known (now f) (now starts) functions ⌝ ∗ ⌜ Table (now f) terms structs (now tab) ⌝ ∗ ⌜ Narrow (now f) ⌝ ∗ ⌜ (p < pages) × (i < o .count) × (ObjectsAre (now f) (now s) n p terms structs o) ⌝ }
-    ensures { λ b. ⌜ Tells b (PositionOk (now (f .entry)) (now (s .entry)) n p i) ⌝ }
+    ensures { λ b. ⌜ Tells b (OwnedPosition (now (f .entry)) (now (s .entry)) n p i) ⌝ }
 {
     let regions = o.to;
     let x = runs::place_prim(f, terms, structs, o.place, regions, i, tab);
@@ -129,8 +202,9 @@ fn position_ok(
     if kind == 1 {
         return true;
     }
-    let g = target_of(f, starts, functions, terms, s, n, to, t);
-    places_ok(f, terms, structs, tab, s, n, p, o.size, to, t, x.off, g)
+    let g = target_of(f, starts, functions, terms, structs, tab, s, n, to, t);
+    let owner = state::total::owner(s, p);
+    all_places(f, terms, structs, tab, s, n, owner, o.size, to, t, x.off, g)
 }
 
 fn positions_ok(
@@ -146,7 +220,7 @@ fn positions_ok(
     o: Objects,
 ) -> bool
     requires { ⌜ Known (now f) (now starts) functions ⌝ ∗ ⌜ Table (now f) terms structs (now tab) ⌝ ∗ ⌜ Narrow (now f) ⌝ ∗ ⌜ (p < pages) × (ObjectsAre (now f) (now s) n p terms structs o) ⌝ }
-    ensures { λ b. ⌜ Tells b ((i : ℕ) → i < o .count → PositionOk (now (f .entry)) (now (s .entry)) n p i) ⌝ }
+    ensures { λ b. ⌜ Tells b ((i : ℕ) → i < o .count → OwnedPosition (now (f .entry)) (now (s .entry)) n p i) ⌝ }
 {
     let many = o.count;
     let mut i = 0;
@@ -187,6 +261,28 @@ fn objects_of(
     }
 }
 
+fn apart(s: &[u8], owner: u32, q: u32) -> bool
+    ensures { λ b. ⌜ Tells b (Apart (now (s .entry)) owner q) ⌝ }
+{
+    let other = words::wide(state::total::owner(s, q));
+    !(other == owner)
+}
+
+// No page before p has this owner.
+fn unseen(s: &[u8], p: u32, owner: u32) -> bool
+    ensures { λ b. ⌜ Tells b ((q : ℕ) → q < p → Apart (now (s .entry)) owner q) ⌝ }
+{
+    let mut q = 0;
+    while q < p {
+        if !apart(s, owner, q) {
+            return false;
+        }
+        q += 1;
+    }
+    true
+}
+
+// Page p, for all pages of its owner if it is the first of them.
 fn page_ok(
     f: &[u8],
     starts: &[usize; CALLEES],
@@ -199,10 +295,13 @@ fn page_ok(
     p: u32,
 ) -> bool
     requires { ⌜ Known (now f) (now starts) functions ⌝ ∗ ⌜ Table (now f) terms structs (now tab) ⌝ ∗ ⌜ Narrow (now f) ⌝ ∗ ⌜ p < pages ⌝ }
-    ensures { λ b. ⌜ Tells b (PagePrimitives (now (f .entry)) (now (s .entry)) n p) ⌝ }
+    ensures { λ b. ⌜ Tells b (Leads (now (f .entry)) (now (s .entry)) n p) ⌝ }
 {
     let owner = words::wide(state::total::owner(s, p));
     if owner == 0 {
+        return true;
+    }
+    if !unseen(s, p, owner) {
         return true;
     }
     let h = home_of(f, starts, functions, s, n, owner - 1);
@@ -224,7 +323,7 @@ fn all_pages(
     n: u32,
 ) -> bool
     requires { ⌜ Known (now f) (now starts) functions ⌝ ∗ ⌜ Table (now f) terms structs (now tab) ⌝ ∗ ⌜ Narrow (now f) ⌝ }
-    ensures { λ b. ⌜ Tells b ((p : ℕ) → p < pages → PagePrimitives (now (f .entry)) (now (s .entry)) n p) ⌝ }
+    ensures { λ b. ⌜ Tells b ((p : ℕ) → p < pages → Leads (now (f .entry)) (now (s .entry)) n p) ⌝ }
 {
     let mut p = 0;
     while p < Machine::PAGES {

@@ -22,11 +22,14 @@ home-of-requires c κs = search needs
 map-before-requires : tie.Need-map-before-requires
 map-before-requires c κs = search needs
 
+extent-at-requires : tie.Need-extent-at-requires
+extent-at-requires c κs = search needs
+
 inner-requires : tie.Need-inner-requires
-inner-requires c κs = search needs
+inner-requires c κs = c .before .before .before .before .before .before .before .before .before .before .pre .1 .0 .counted .terms
 
 returns : tie.Need-returns
-returns c = target-is (c .before .before .before .before .before .before .before .before .before .pre .1 .1) (c .before .before .before .before .before .before .target-region .ensures) (c .before .before .before .before .live-of .ensures) (c .before .before .before .wide .ensures .0) (c .before .before .home-of .ensures) (c .before .map-before .ensures) (c .inner .ensures)
+returns c = target-is (c .before .before .before .before .before .before .before .before .before .before .before .pre .1 .1) (c .before .before .before .before .before .before .before .target-region .ensures) (c .before .before .before .before .before .live-of .ensures) (c .before .before .before .before .wide .ensures .0) (c .before .before .before .home-of .ensures) (c .before .before .map-before .ensures) (c .before .extent-at .ensures) (c .inner .ensures)
 
 pub target-of-spec : {M : Type 1} → statement M
 target-of-spec =
@@ -38,5 +41,6 @@ target-of-spec =
     wide-requires
     home-of-requires
     map-before-requires
+    extent-at-requires
     inner-requires
     returns)

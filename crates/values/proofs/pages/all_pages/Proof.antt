@@ -3,12 +3,12 @@ use borrow.Author.Needs.{needs}
 use native.Mathlib.Omega.{arith}
 use Prim.Native.Nat.{ℕ, _-_, _<_, _≤_}
 use Rattle.stack.specs.Tells.{scan-none, scan-more, scan-broken, scan-ended}
-use Rattle.values.specs.Pages.{PagePrimitives}
+use Rattle.values.specs.Pages.{Leads}
 use Rattle.values.proofs.pages.all_pages.Statement.{statement}
 use Rattle.values.proofs.pages.all_pages.Tie as tie
 
 abbrev Inv-loop : tie.InvT-loop
-Inv-loop f starts functions terms structs tab s n p₀ p = (p ≤ 64) × ((z : ℕ) → z < p → PagePrimitives f s n z)
+Inv-loop f starts functions terms structs tab s n p₀ p = (p ≤ 64) × ((z : ℕ) → z < p → Leads f s n z)
 
 abbrev μ-loop : tie.MeasureT-loop
 μ-loop f starts functions terms structs tab s n p₀ p = 64 - p

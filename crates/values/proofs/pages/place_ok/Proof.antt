@@ -23,11 +23,11 @@ add-x-2 c = let q = c .before .before .before .pre .1 .1 in omega (arith, q .0, 
 
 pointer-ok-requires : tie.Need-pointer-ok-requires
 pointer-ok-requires c κs =
-    let q = c .before .before .before .pre .1 .1 in
-    (c .before .before .before .pre .0, (c .before .before .before .pre .1 .0, (q .3, omega (arith, q .0, q .1, place-few (c .before .before .before .args .size) (c .before .before .before .args .j) (q .2)))))
+    let q = c .before .before .before .before .pre .1 .1 in
+    (c .before .before .before .before .pre .0, (c .before .before .before .before .pre .1 .0, (q .3, omega (arith, q .0, q .1, place-few (c .before .before .before .before .args .size) (c .before .before .before .before .args .j) (q .2)), q .4)))
 
 returns : tie.Need-returns
-returns c = place-by (c .before .before .before .before .pre .1 .1 .2) refl (c .pointer-ok .ensures)
+returns c = (place-by (c .before .before .before .before .before .pre .1 .1 .2) refl (c .pointer-ok .ensures .0), c .pointer-ok .ensures .1)
 
 pub place-ok-spec : {M : Type 1} → statement M
 place-ok-spec = tie.close (tie.spec mul-x mul-x-2 add-x cast-x add-x-2 pointer-ok-requires returns)

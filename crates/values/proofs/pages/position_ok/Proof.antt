@@ -1,6 +1,6 @@
--- `values::pages::position_ok` meets its contract: the primitive that is found, in each place. Assumes nothing.
+-- `values::pages::position_ok` meets its contract: the primitive that is found, in each page and place. Assumes nothing.
 use native.Mathlib.Omega.{arith}
-use Rattle.values.specs.Pages.{position-by, position-integer, position-pointer}
+use Rattle.values.specs.Pages.{owned-by, owned-integer, position-pointer}
 use borrow.Author.Needs.{needs}
 use Rattle.values.proofs.pages.position_ok.Statement.{statement}
 use Rattle.values.proofs.pages.position_ok.Tie as tie
@@ -17,22 +17,25 @@ form-requires c κs = search needs
 returns : tie.Need-returns
 returns c =
     let q = c .before .before .before .before .before .before .before .before .before .pre .1 in
-    position-integer (q .1 .1 .2) (q .0) (c .before .before .before .before .before .before .before .before .before .args .i) (c .before .before .before .before .place-prim .result) (c .before .before .before .before .place-prim .ensures .0) (c .before .before .term-at .result) (c .before .before .term-at .ensures) (c .before .form .ensures) (λ i. omega (arith, c .before .before .before .before .before .before .shared-slice-known3 .given i)) (c .if1 .taken)
+    owned-integer (q .1 .1 .2) (q .0) (c .before .before .before .before .before .before .before .before .before .args .i) (c .before .before .before .before .place-prim .result) (c .before .before .before .before .place-prim .ensures .0) (c .before .before .term-at .result) (c .before .before .term-at .ensures) (c .before .form .ensures) (λ i. omega (arith, c .before .before .before .before .before .before .shared-slice-known3 .given i)) (c .if1 .taken)
 
 target-of-requires : tie.Need-target-of-requires
 target-of-requires c κs =
     let q = c .before .before .before .before .before .before .before .before .before .pre .1 in
-    (c .before .before .before .before .before .before .before .before .before .pre .0, (q .0 .counted .terms, position-pointer (q .1 .1 .2) (q .0) (c .before .before .before .before .before .before .before .before .before .args .i) (c .before .before .before .before .place-prim .result) (c .before .before .before .before .place-prim .ensures .0) (c .before .before .term-at .result) (c .before .before .term-at .ensures) (c .before .form .ensures) (c .if1 .left) (q .1 .1 .1)))
+    (c .before .before .before .before .before .before .before .before .before .pre .0, (q .0, position-pointer (q .1 .1 .2) (q .0) (c .before .before .before .before .before .before .before .before .before .args .i) (c .before .before .before .before .place-prim .result) (c .before .before .before .before .place-prim .ensures .0) (c .before .before .term-at .result) (c .before .before .term-at .ensures) (c .before .form .ensures) (c .if1 .left) (q .1 .1 .1)))
 
-places-ok-requires : tie.Need-places-ok-requires
-places-ok-requires c κs =
-    let q = c .before .before .before .before .before .before .before .before .before .before .pre .1 in
-    (q .0, (q .1 .0, (q .1 .1 .0, c .before .before .before .before .before .place-prim .ensures .2, c .target-of .ensures)))
+owner-requires : tie.Need-owner-requires
+owner-requires c κs = search needs
+
+all-places-requires : tie.Need-all-places-requires
+all-places-requires c κs =
+    let q = c .before .before .before .before .before .before .before .before .before .before .before .pre .1 in
+    (q .0, (q .1 .0, (c .before .before .before .before .before .before .place-prim .ensures .2, c .before .target-of .ensures)))
 
 returns-2 : tie.Need-returns-2
 returns-2 c =
-    let q = c .before .before .before .before .before .before .before .before .before .before .before .pre .1 in
-    position-by (q .1 .1 .2) (q .0) (c .before .before .before .before .before .before .before .before .before .before .before .args .i) (c .before .before .before .before .before .before .place-prim .result) (c .before .before .before .before .before .before .place-prim .ensures .0) (c .before .before .before .before .term-at .result) (c .before .before .before .before .term-at .ensures) (c .places-ok .ensures)
+    let q = c .before .before .before .before .before .before .before .before .before .before .before .before .pre .1 in
+    owned-by (q .1 .1 .2) (q .0) (c .before .before .before .before .before .before .before .before .before .before .before .before .args .i) (c .before .before .before .before .before .before .before .place-prim .result) (c .before .before .before .before .before .before .before .place-prim .ensures .0) (c .before .before .before .before .before .term-at .result) (c .before .before .before .before .before .term-at .ensures) (c .before .owner .ensures) (c .all-places .ensures)
 
 pub position-ok-spec : {M : Type 1} → statement M
 position-ok-spec =
@@ -43,5 +46,6 @@ position-ok-spec =
     form-requires
     returns
     target-of-requires
-    places-ok-requires
+    owner-requires
+    all-places-requires
     returns-2)

@@ -3,12 +3,12 @@ use borrow.Author.Needs.{needs}
 use native.Mathlib.Omega.{arith}
 use Prim.Native.Nat.{ℕ, _-_, _<_, _≤_}
 use Rattle.stack.specs.Tells.{scan-none, scan-more, scan-broken, scan-ended}
-use Rattle.values.specs.Pages.{PositionOk}
+use Rattle.values.specs.Pages.{OwnedPosition}
 use Rattle.values.proofs.pages.positions_ok.Statement.{statement}
 use Rattle.values.proofs.pages.positions_ok.Tie as tie
 
 abbrev Inv-loop : tie.InvT-loop
-Inv-loop f starts functions terms structs tab s n p o many i₀ i = (i ≤ many) × ((z : ℕ) → z < i → PositionOk f s n p z)
+Inv-loop f starts functions terms structs tab s n p o many i₀ i = (i ≤ many) × ((z : ℕ) → z < i → OwnedPosition f s n p z)
 
 abbrev μ-loop : tie.MeasureT-loop
 μ-loop f starts functions terms structs tab s n p o many i₀ i = many - i

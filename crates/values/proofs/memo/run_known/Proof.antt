@@ -1,0 +1,34 @@
+-- `values::memo::run_known` meets its contract: what is remembered, or what is found and then remembered. Assumes nothing.
+use Rattle.values.specs.Memo.{remembers-set}
+use borrow.Author.Needs.{needs}
+use Rattle.values.proofs.memo.run_known.Statement.{statement}
+use Rattle.values.proofs.memo.run_known.Tie as tie
+
+element-copy-out-known : tie.Need-element-copy-out-known
+element-copy-out-known c = search needs
+
+returns : tie.Need-returns
+returns c = (c .before .before .before .before .before .before .pre .1 .each (c .before .before .before .before .before .before .args .o) (c .if1 .taken), c .before .before .before .before .before .before .pre .1)
+
+run-at-requires : tie.Need-run-at-requires
+run-at-requires c κs = search needs
+
+note-requires : tie.Need-note-requires
+note-requires c κs = search needs
+
+element-write-memo : tie.Need-element-write-memo
+element-write-memo c = search needs
+
+returns-2 : tie.Need-returns-2
+returns-2 c = (c .before .run-at .ensures, remembers-set _ (c .note .ensures) (c .before .run-at .ensures) (c .before .before .before .before .before .before .before .before .pre .1))
+
+pub run-known-spec : {M : Type 1} → statement M
+run-known-spec =
+    tie.close
+    (tie.spec
+    element-copy-out-known
+    returns
+    run-at-requires
+    note-requires
+    element-write-memo
+    returns-2)

@@ -1,0 +1,70 @@
+-- What is remembered of runs: a byte for each distance into an object, 0 where nobody has asked. Assumes nothing.
+use mathlib.Core.Path.{_≡_, refl, sym, ap, _∙_}
+use mathlib.Core.Bool.{Bool, true, false}
+use mathlib.Core.Logic.{_≢_, ⊎-elim}
+use Prim.Native.Nat.{ℕ, zero, suc, _+_, _*_, _/_, _%_, _<_, _≤_}
+use native.Mathlib.Nat.{mod-le}
+use native.Mathlib.Decide.{ℕ-discrete}
+use native.Mathlib.Omega.{arith}
+use lib.Dec.{eqb}
+use lib.ListN.{length, set, replicate, length-set}
+use lib.Seq.{getD-set-same, getD-set-other}
+use Rattle.words.specs.Bytes.{Bytes, byteAt}
+use Rattle.words.specs.ByteLaws.{byte-past}
+use Rattle.words.specs.Choose.{lt-or-le}
+use Rattle.rules.specs.Types.{RegionKind, variable, live, sub}
+use Rattle.rules.specs.Flat.{flat, size}
+use Rattle.rules.specs.Decode.{moduleOf}
+use Rattle.terms.specs.Compare.{under}
+use Rattle.runs.specs.Runs.{RunAtIs, InPageIs, page-none, page-past, page-in, size-under}
+
+-- m remembers at which distances of term u under p the run of term t under q stands: 1 where it does, another number where not
+pub record Remembers (f : Bytes) (u : ℕ) (p : Bytes) (t : ℕ) (q m : Bytes) : Type 0 where
+  pub each : (o : ℕ) → byteAt m o ≢ 0 → RunAtIs f u p o t q (eqb (byteAt m o) 1)
+
+-- objects of term u have this size
+pub record SizeIs (f : Bytes) (u z : ℕ) : Type 0 where
+  pub is : z ≡ size (moduleOf f) (moduleOf f .term u)
+  pub small : z ≤ 257
+
+-- how an answer is remembered
+pub record Noted (b : Bool) (v : ℕ) : Type 0 where
+  pub some : v ≢ 0
+  pub is : eqb v 1 ≡ b
+
+zeros : (n o : ℕ) → byteAt (replicate n 0) o ≡ 0
+zeros zero o = refl
+zeros (suc n) zero = refl
+zeros (suc n) (suc o) = zeros n o
+
+module _ {f : Bytes} {u : ℕ} {p : Bytes} {t : ℕ} {q : Bytes} where
+  pub remembers-none : (n : ℕ) → Remembers f u p t q (replicate n 0)
+  remembers-none n = record { each = λ o d. absurd (d (zeros n o)) }
+
+  pub remembers-set : {m : Bytes} (o : ℕ) {v : ℕ} {b : Bool} → Noted b v → RunAtIs f u p o t q b → Remembers f u p t q m → Remembers f u p t q (set m o v)
+  remembers-set {m} o {v} {b} w h r = record { each = λ j d. go j d (ℕ-discrete j o) }
+    where
+      go : (j : ℕ) → byteAt (set m o v) j ≢ 0 → Dec (j ≡ o) → RunAtIs f u p j t q (eqb (byteAt (set m o v) j) 1)
+      go j d (yes e) =
+          ⊎-elim (λ l. let g : byteAt (set m o v) j ≡ v = rw e (getD-set-same m o v 0 l) in rw (g, w .is, e) h)
+          (λ l. absurd (d (byte-past (set m o v) j (omega (arith, length-set m o v)))))
+          (lt-or-le o (length m))
+      go j d (no e) = let g : byteAt (set m o v) j ≡ byteAt m j = getD-set-other m o j v 0 e in rw g (r .each j (rw g at d))
+
+-- ---- the place in a page, from the run
+
+pub rest-few : (x z : ℕ) → x < 256 → x % z < 256
+rest-few x z h = let l = mod-le x z in omega arith
+
+module _ {f : Bytes} {u z : ℕ} (w : SizeIs f u z) (p : Bytes) (x t : ℕ) (q : Bytes) where
+  is : (k : RegionKind) → z ≡ flat (moduleOf f) (sub (under {k = k} p) (moduleOf f .term u)) .size
+  is k = w .is ∙ size-under k f p u
+
+  pub in-none : z ≡ 0 → InPageIs f u p x t q false
+  in-none e = (page-none _ x _ z (is variable) e, page-none _ x _ z (is live) e)
+
+  pub in-past : z ≢ 0 → 256 < x / z * z + z → InPageIs f u p x t q false
+  in-past d h = (page-past _ x _ z (is variable) d h, page-past _ x _ z (is live) d h)
+
+  pub in-some : {b : Bool} → z ≢ 0 → x / z * z + z ≤ 256 → RunAtIs f u p (x % z) t q b → InPageIs f u p x t q b
+  in-some {b} d h r = (page-in _ x _ z (is variable) d h b (r .0), page-in _ x _ z (is live) d h b (r .1))
