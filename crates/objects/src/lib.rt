@@ -10,7 +10,8 @@ ghost use Rattle.runs.specs.Table.{Table};
 ghost use Rattle.stack.specs.Tells.{Tells};
 ghost use Rattle.stack.specs.Facts.{Known};
 ghost use Rattle.objects.specs.Homes.{lastOf, lastLocal, frameOf, termAt, regionTree, HomeIs, partAt, IsPart, objectAt};
-ghost use Rattle.objects.specs.Ends.{EndMark, EndsOk, AllEnds};
+ghost use Rattle.objects.specs.Ends.{PlacesIn, EndMark, EndsOk, AllEnds};
+use shape::spare::zero;
 use stack::regions::head;
 use stack::regions::region;
 use state::Machine;
@@ -176,6 +177,17 @@ pub fn object(
 
 // ---- marks past the last place
 
+// How many places a page has for objects of this size. (Size 0: all of them, that of no object.)
+pub fn places_in(size: usize) -> usize
+    ensures { λ r. ⌜ PlacesIn size r ⌝ }
+{
+    let all = Machine::PAGE_BYTES as usize;
+    if size == 0 {
+        return all;
+    }
+    all / size
+}
+
 fn end_mark(s: &[u8], p: u32, size: usize, j: u32) -> bool
     requires { ⌜ (size ≤ 257) × (j < 256) ⌝ }
     ensures { λ b. ⌜ Tells b (EndMark (now (s .entry)) p size j) ⌝ }
@@ -184,18 +196,32 @@ fn end_mark(s: &[u8], p: u32, size: usize, j: u32) -> bool
     (size * (j as usize + 1) <= Machine::PAGE_BYTES as usize) | (x == 0)
 }
 
-fn end_marks(s: &[u8], p: u32, size: usize) -> bool
-    requires { ⌜ size ≤ 257 ⌝ }
-    ensures { λ b. ⌜ Tells b ((j : ℕ) → j < pageBytes → EndMark (now (s .entry)) p size j) ⌝ }
+// The places from `many` on that are before `to`.
+fn near_marks(s: &[u8], p: u32, size: usize, many: u32, to: u32) -> bool
+    requires { ⌜ (size ≤ 257) × (to ≤ 256) × (PlacesIn size many) ⌝ }
+    ensures { λ b. ⌜ Tells b ((j : ℕ) → j < to → EndMark (now (s .entry)) p size j) ⌝ }
 {
-    let mut j = 0;
-    while j < Machine::PAGE_BYTES {
+    let mut j = many;
+    while j < to {
         if !end_mark(s, p, size, j) {
             return false;
         }
         j += 1;
     }
     true
+}
+
+// Up to the end of their byte the marks are read one by one, from there on byte by byte.
+fn end_marks(s: &[u8], p: u32, size: usize) -> bool
+    requires { ⌜ (size ≤ 257) × (p < pages) ⌝ }
+    ensures { λ b. ⌜ Tells b ((j : ℕ) → j < pageBytes → EndMark (now (s .entry)) p size j) ⌝ }
+{
+    let many = places_in(size);
+    let whole = (many + 7) / 8;
+    let near = near_marks(s, p, size, many as u32, (8 * whole) as u32);
+    let marks = state::places::marks_place(p);
+    let far = zero(s, marks + whole, marks + Machine::MARK_BYTES);
+    near & far
 }
 
 fn page_ends(
@@ -209,7 +235,7 @@ fn page_ends(
     n: u32,
     p: u32,
 ) -> bool
-    requires { ⌜ Known (now f) (now starts) functions ⌝ ∗ ⌜ Table (now f) terms structs (now tab) ⌝ }
+    requires { ⌜ Known (now f) (now starts) functions ⌝ ∗ ⌜ Table (now f) terms structs (now tab) ⌝ ∗ ⌜ p < pages ⌝ }
     ensures { λ b. ⌜ Tells b (EndsOk (now (f .entry)) (now (s .entry)) n p) ⌝ }
 {
     let owner = words::wide(state::total::owner(s, p));

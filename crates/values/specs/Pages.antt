@@ -5,7 +5,7 @@ use mathlib.Core.Bool.{Bool, true, not}
 use mathlib.Core.List.{List}
 use mathlib.Core.Logic.{_≢_, _⊎_, inl, inr, ⊎-elim}
 use Prim.Native.Nat.{ℕ, zero, suc, _+_, _-_, _*_, _/_, _<_, _≤_}
-use native.Mathlib.Nat.{mul-suc, mul-comm, div-lt-iff-lt-mul, le-div-iff-mul-le}
+use native.Mathlib.Nat.{mul-suc}
 use native.Mathlib.Decide.{ℕ-discrete}
 use native.Mathlib.Omega.{arith}
 use lib.Dec.{eqb}
@@ -34,6 +34,7 @@ use Rattle.runs.specs.Runs.{found-nth, layout-under}
 use Rattle.runs.specs.Maps.{each-of, Narrow, mapList, under-close}
 use Rattle.stack.specs.Tells.{Tells, tells-map, tells-yes, tells-not, tells-eq}
 use Rattle.objects.specs.Homes.{regionTree, HomeIs, size-some}
+use Rattle.objects.specs.Ends.{PlacesIn}
 use Rattle.objects.specs.declared.Home.{Home}
 use Rattle.values.specs.Memory.{PrimitiveAt, integer-at, map-short}
 use Rattle.values.specs.Passes.{AllPrimitives}
@@ -96,25 +97,6 @@ pub place-none : (n p : ℕ) → p ≡ 0 → placeOf n n ≡ p
 place-none n p e = place-out n n (omega arith) ∙ sym e
 
 -- ---- place by place
-
--- a page has r places for objects of size z
-pub record PlacesIn (z r : ℕ) : Type 0 where
-  pub few : r ≤ pageBytes
-  pub inside : (j : ℕ) → j < r → z * suc j ≤ pageBytes
-  pub past : (j : ℕ) → j < pageBytes → r ≤ j → pageBytes < z * suc j
-
-pub places-all : (z : ℕ) → z ≡ 0 → PlacesIn z pageBytes
-places-all z e = record { few = omega arith; inside = λ j l. let q : 0 * suc j ≤ pageBytes = omega arith in rw e q; past = λ j h l. absurd (omega arith) }
-
-pub places-some : (z : ℕ) → z ≢ 0 → PlacesIn z (pageBytes / z)
-places-some z d =
-    let h : 0 < z = omega (arith, d) in
-    let few : pageBytes / z < suc pageBytes = div-lt-iff-lt-mul h .1 (omega arith) in
-    record {
-      few = omega arith;
-      inside = λ j l. let a : suc j * z ≤ pageBytes = le-div-iff-mul-le h .0 l in let c = mul-comm (suc j) z in omega arith;
-      past = λ j l k. let a : pageBytes < suc j * z = div-lt-iff-lt-mul h .0 (let q : pageBytes / z < suc j = omega arith in q) in let c = mul-comm (suc j) z in omega arith;
-    }
 
 -- a place that there is starts in the page
 pub place-few : (z j : ℕ) → z * suc j ≤ pageBytes → z * j ≤ pageBytes

@@ -12,7 +12,7 @@ ghost use Rattle.stack.specs.Facts.{Known};
 ghost use Rattle.objects.specs.Homes.{HomeIs};
 ghost use Rattle.values.specs.Memory.{TargetIs};
 ghost use Rattle.values.specs.Passes.{AllPrimitives};
-ghost use Rattle.values.specs.Pages.{PlacesIn, PlaceOk, OwnedPlaces, OwnedPosition, Apart, Leads, ObjectsAre};
+ghost use Rattle.values.specs.Pages.{PlaceOk, OwnedPlaces, OwnedPosition, Apart, Leads, ObjectsAre};
 ghost use Rattle.values.specs.Memo.{Remembers};
 use crate::map_of;
 use crate::memory::Target;
@@ -20,6 +20,7 @@ use crate::memory::pointer_ok;
 use crate::memory::target_of;
 use objects::Home;
 use objects::home_of;
+use objects::places_in;
 use state::Machine;
 use terms::form;
 use walk::limits::CALLEES;
@@ -41,17 +42,6 @@ fn term_at(n: usize, p: usize) -> usize
         return n;
     }
     p - 1
-}
-
-// How many places a page has for objects of this size. (Size 0: all of them, that of no object.)
-fn places_in(size: usize) -> usize
-    ensures { λ r. ⌜ PlacesIn size r ⌝ }
-{
-    let all = Machine::PAGE_BYTES as usize;
-    if size == 0 {
-        return all;
-    }
-    all / size
 }
 
 // The pointer at distance d of the object at place j of page p, of term t under `to`, which leads to g; objects have this size.

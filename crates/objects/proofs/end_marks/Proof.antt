@@ -1,49 +1,57 @@
--- `objects::end_marks` meets its contract: every place before j is right. Assumes nothing.
-use borrow.Author.Needs.{needs}
+-- `objects::end_marks` meets its contract: the marks up to the end of a byte, and the bytes behind them. Assumes nothing.
 use native.Mathlib.Omega.{arith}
-use Prim.Native.Nat.{ℕ, _+_, _-_, _<_, _≤_}
-use Rattle.stack.specs.Tells.{scan-none, scan-more, scan-broken, scan-ended}
-use Rattle.objects.specs.Ends.{EndMark}
+use Rattle.objects.specs.Ends.{marks-by}
+use borrow.Author.Needs.{needs}
 use Rattle.objects.proofs.end_marks.Statement.{statement}
 use Rattle.objects.proofs.end_marks.Tie as tie
 
-abbrev Inv-loop : tie.InvT-loop
-Inv-loop s p size j₀ j = (j ≤ 256) × ((z : ℕ) → z < j → EndMark s p size z)
+places-in-requires : tie.Need-places-in-requires
+places-in-requires c κs = search needs
 
-abbrev μ-loop : tie.MeasureT-loop
-μ-loop s p size j₀ j = 256 - j
+add-whole : tie.Need-add-whole
+add-whole c = omega (arith, c .places-in .ensures .few)
 
-loop-holds : tie.Need-loop-holds Inv-loop μ-loop
-loop-holds c = (omega arith, scan-none _)
+cast-near-marks : tie.Need-cast-near-marks
+cast-near-marks c = omega (arith, c .places-in .ensures .few)
 
-end-mark-requires : tie.Need-end-mark-requires Inv-loop μ-loop
-end-mark-requires c κs = search needs
+mul-near-marks : tie.Need-mul-near-marks
+mul-near-marks c = omega (arith, c .places-in .ensures .few)
 
-returns : tie.Need-returns Inv-loop μ-loop
-returns c = scan-broken _ _ _ (omega arith) (c .before .end-mark .ensures) (c .if1 .taken)
+cast-near-marks-2 : tie.Need-cast-near-marks-2
+cast-near-marks-2 c = omega (arith, c .places-in .ensures .few)
 
-add-j : tie.Need-add-j Inv-loop μ-loop
-add-j c = search needs
+near-marks-requires : tie.Need-near-marks-requires
+near-marks-requires c κs = (c .before .before .pre .0, omega (arith, c .places-in .ensures .few), c .places-in .ensures)
 
-loop-less : tie.Need-loop-less Inv-loop μ-loop
-loop-less c = search needs
+marks-place-requires : tie.Need-marks-place-requires
+marks-place-requires c κs = search needs
 
-loop-again : tie.Need-loop-again Inv-loop μ-loop
-loop-again c = (omega arith, scan-more _ _ (c .before .before .before .loop .inv .1) (c .before .end-mark .ensures) (c .if1 .left))
+add-zero : tie.Need-add-zero
+add-zero c = omega (arith, c .before .before .places-in .ensures .few, c .before .before .before .before .pre .1, c .marks-place .ensures)
 
-returns-2 : tie.Need-returns-2 Inv-loop μ-loop
-returns-2 c = scan-ended _ _ _ (c .before .loop .inv .1) (c .loop-test .left)
+add-zero-2 : tie.Need-add-zero-2
+add-zero-2 c = omega (arith, c .before .before .before .before .pre .1, c .marks-place .ensures)
+
+zero-requires : tie.Need-zero-requires
+zero-requires c κs = search needs
+
+returns : tie.Need-returns
+returns c =
+    marks-by (c .before .before .before .before .before .pre .1) (λ i. omega (arith, c .before .before .before .before .shared-slice-known .given i)) (c .before .before .before .places-in .ensures) (omega arith) (omega (arith, c .before .before .before .places-in .ensures .few)) (c .before .marks-place .ensures)
+    (c .before .before .near-marks .ensures) (c .zero .ensures)
 
 pub end-marks-spec : {M : Type 1} → statement M
 end-marks-spec =
     tie.close
     (tie.spec
-    Inv-loop
-    μ-loop
-    loop-holds
-    end-mark-requires
-    returns
-    add-j
-    loop-less
-    loop-again
-    returns-2)
+    places-in-requires
+    add-whole
+    cast-near-marks
+    mul-near-marks
+    cast-near-marks-2
+    near-marks-requires
+    marks-place-requires
+    add-zero
+    add-zero-2
+    zero-requires
+    returns)

@@ -1,8 +1,8 @@
--- `values::pages::places_in` meets its contract: by whether objects have a size. Assumes nothing.
-use Rattle.values.specs.Pages.{places-all, places-some}
+-- `objects::places_in` meets its contract: by whether objects have a size. Assumes nothing.
+use Rattle.objects.specs.Ends.{places-all, places-some}
 use borrow.Author.Needs.{needs}
-use Rattle.values.proofs.pages.places_in.Statement.{statement}
-use Rattle.values.proofs.pages.places_in.Tie as tie
+use Rattle.objects.proofs.places_in.Statement.{statement}
+use Rattle.objects.proofs.places_in.Tie as tie
 
 cast-all : tie.Need-cast-all
 cast-all c = search needs
