@@ -12,10 +12,19 @@ use lib.Seq.{getD-set-same, getD-set-other}
 use Rattle.words.specs.Bytes.{Bytes, byteAt}
 use Rattle.words.specs.ByteLaws.{byte-past}
 use Rattle.words.specs.Choose.{lt-or-le}
-use Rattle.rules.specs.Types.{RegionKind, variable, live, sub}
-use Rattle.rules.specs.Flat.{flat, size}
+use Rattle.words.specs.Decide.{does, does-true}
+use Rattle.rules.specs.Limits.{sizeLimit}
+use Rattle.rules.specs.Types.{RegionKind, variable, live, Tree, sub, decTree}
+use Rattle.rules.specs.Module.{Module}
+use Rattle.rules.specs.Flat.{flat, size, decRun, positionAt}
 use Rattle.rules.specs.Decode.{moduleOf}
-use Rattle.terms.specs.Compare.{under}
+use Rattle.layout.specs.Prims.{has-some}
+use Rattle.layout.specs.Flat.{distance-zero, filled}
+use Rattle.layout.specs.Runs.{same-run}
+use Rattle.terms.specs.Heads.{placeOf, treeAt}
+use Rattle.terms.specs.Extents.{Terms}
+use Rattle.terms.specs.ExtentLaws.{module-term}
+use Rattle.terms.specs.Compare.{under, placesSame, does-yes}
 use Rattle.runs.specs.Runs.{RunAtIs, InPageIs, page-none, page-past, page-in, size-under}
 
 -- m remembers at which distances of term u under p the run of term t under q stands: 1 where it does, another number where not
@@ -68,3 +77,28 @@ module _ {f : Bytes} {u z : ℕ} (w : SizeIs f u z) (p : Bytes) (x t : ℕ) (q :
 
   pub in-some : {b : Bool} → z ≢ 0 → x / z * z + z ≤ 256 → RunAtIs f u p (x % z) t q b → InPageIs f u p x t q b
   in-some {b} d h r = (page-in _ x _ z (is variable) d h b (r .0), page-in _ x _ z (is live) d h b (r .1))
+
+-- ---- at the start of an object of that very type
+
+whole-stands : {j : RegionKind} (m : Module) (T U : Tree j) → T ≡ U → 0 < size m T → size m T ≤ sizeLimit → true ≡ does (decRun (flat m T) (positionAt (flat m T) 0) (flat m U))
+whole-stands m T U e h l =
+    sym (does-yes (decRun (flat m T) (positionAt (flat m T) 0) (flat m U))
+    (same-run (flat m T) (flat m U) (distance-zero m T l) (record { some = has-some (filled m T l 0 h .has); equal = ap (λ (X : Tree _). flat m X .prims) e })))
+
+same-tree : (j : RegionKind) (f : Bytes) {n a b : ℕ} (u t : ℕ) (p q : Bytes) → Terms f n → a ≡ placeOf n u → b ≡ placeOf n t → placesSame j f a p b q ≡ true
+    → sub (under {k = j} p) (moduleOf f .term u) ≡ sub (under q) (moduleOf f .term t)
+unfolding placesSame
+same-tree j f {n} {a} {b} u t p q terms ea eb h =
+    ap (sub (under {k = j} p)) (module-term f n terms u ∙ ap (treeAt f) (sym ea))
+    ∙ does-true (decTree (sub (under {k = j} p) (treeAt f a)) (sub (under q) (treeAt f b))) h
+    ∙ sym (ap (sub (under {k = j} q)) (module-term f n terms t ∙ ap (treeAt f) (sym eb)))
+
+pub run-whole : {f : Bytes} {n a b u z : ℕ} (o t : ℕ) (p q : Bytes) {r : Bool} → Terms f n → SizeIs f u z → 0 < z → z ≤ sizeLimit → o ≡ 0 → a ≡ placeOf n u → b ≡ placeOf n t
+    → (r ≡ placesSame variable f a p b q) × (r ≡ placesSame live f a p b q) → r ≡ true → RunAtIs f u p o t q true
+run-whole {f} {n} {a} {b} {u} {z} o t p q terms w h l eo ea eb e er =
+    rw eo (
+      let i : z ≡ size (moduleOf f) (sub (under {k = variable} p) (moduleOf f .term u)) = w .is ∙ size-under variable f p u in
+          whole-stands (moduleOf f) _ _ (same-tree variable f u t p q terms ea eb (sym (e .0) ∙ er)) (omega (arith, i)) (omega (arith, i)),
+      let i : z ≡ size (moduleOf f) (sub (under {k = live} p) (moduleOf f .term u)) = w .is ∙ size-under live f p u in
+          whole-stands (moduleOf f) _ _ (same-tree live f u t p q terms ea eb (sym (e .1) ∙ er)) (omega (arith, i)) (omega (arith, i)),
+    )

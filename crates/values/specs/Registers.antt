@@ -1,9 +1,8 @@
 -- Each register is a value of its type: register by register, frame by frame. Assumes nothing.
 use mathlib.Core.Path.{_≡_, refl, sym, ap, _∙_}
-use mathlib.Core.Bool.{Bool, _||_}
-use mathlib.Core.Logic.{_≢_}
+use mathlib.Core.Bool.{Bool}
+use mathlib.Core.Logic.{_≢_, inl, inr, ⊎-elim}
 use Prim.Native.Nat.{ℕ, suc, _+_, _/_, _%_, _^_, _<_, _≤_}
-use lib.Dec.{eqb}
 use Rattle.words.specs.Bytes.{Bytes}
 use Rattle.rules.specs.Limits.{mostEntries}
 use Rattle.rules.specs.File.{recordOf, entryOf}
@@ -13,7 +12,7 @@ use Rattle.rules.specs.Types.{form, numberOf, regionOf}
 use Rattle.rules.specs.Heap.{close, heapTyping, Stands, Value}
 use Rattle.rules.specs.declared.Record.{Record}
 use Rattle.terms.specs.Readers.{Inner}
-use Rattle.stack.specs.Tells.{Tells, tells-map, tells-or, tells-eq}
+use Rattle.stack.specs.Tells.{Tells, tells-map, tells-yes}
 use Rattle.stack.specs.Facts.{functionAt, headAt, registers-at}
 use Rattle.values.specs.Value.{typingOf, value-int, value-ptr, value-none}
 
@@ -66,14 +65,18 @@ module _ {f s : Bytes} {n k t x : ℕ} where
   value-number ef e ew u =
       tells-map (λ v. record { is = v }) (λ v. v .is) (value-int (moduleOf f) (typingOf f s n) (frameMap s k) (moduleOf f .term t) (sym ef ∙ e) (rw ew at u))
 
-  pub value-pointer : {b : Bool} {r form' : ℕ} {target variable' : ℕ} → form' ≡ form (moduleOf f .term t) → form' ≡ 2 → variable' ≡ regionOf (moduleOf f .term t) .number
+  pub value-zero : {form' : ℕ} → form' ≡ form (moduleOf f .term t) → form' ≡ 2 → x ≡ 0 → ValueOk f s n k t x
+  value-zero ef e z = record { is = value-ptr (moduleOf f) (typingOf f s n) (frameMap s k) (moduleOf f .term t) (sym ef ∙ e) (tells-yes (inl z)) .holds refl }
+
+  pub value-pointer : {b : Bool} {r form' : ℕ} {target variable' : ℕ} → form' ≡ form (moduleOf f .term t) → form' ≡ 2 → x ≢ 0 → variable' ≡ regionOf (moduleOf f .term t) .number
       → r ≡ frameMap s k variable' → Inner f (moduleOf f .term t) target
-      → Tells b (Stands (moduleOf f) (typingOf f s n) (close (frameMap s k) (moduleOf f .term target)) r x) → Tells (eqb x 0 || b) (ValueOk f s n k t x)
-  value-pointer ef e ev er i u =
+      → Tells b (Stands (moduleOf f) (typingOf f s n) (close (frameMap s k) (moduleOf f .term target)) r x) → Tells b (ValueOk f s n k t x)
+  value-pointer ef e d ev er i u =
       let g = sym ef ∙ e in
       let qr : _ ≡ frameMap s k (regionOf (moduleOf f .term t) .number) = er ∙ ap (frameMap s k) ev in
       tells-map (λ v. record { is = v }) (λ v. v .is)
-      (value-ptr (moduleOf f) (typingOf f s n) (frameMap s k) (moduleOf f .term t) g (tells-or (tells-eq x 0) (rw (i .pointer g, qr) at u)))
+      (value-ptr (moduleOf f) (typingOf f s n) (frameMap s k) (moduleOf f .term t) g
+      (tells-map (λ z. inr z) (⊎-elim (λ z. absurd (d z)) (λ z. z)) (rw (i .pointer g, qr) at u)))
 
   pub value-other : {form' : ℕ} → form' ≡ form (moduleOf f .term t) → form' ≢ 1 → form' ≢ 2 → ¬ ValueOk f s n k t x
   value-other ef a b v = value-none (moduleOf f) (typingOf f s n) (frameMap s k) x (moduleOf f .term t) (λ e. a (ef ∙ e)) (λ e. b (ef ∙ e)) (v .is)

@@ -19,6 +19,7 @@ pub mod memo;
 pub mod memory;
 pub mod pages;
 
+use crate::memo::stands_known;
 use objects::ends_ok;
 use objects::home_of;
 use shape::shape_ok;
@@ -103,7 +104,23 @@ fn stands_at(
     let p = map_of(s, frame - 1);
     let q = map_of(s, k);
     let owner = state::total::owner(s, x / Machine::PAGE_BYTES);
-    runs::stands(f, terms, structs, Live(r), owner, h.term, &p, x, t, &q, tab)
+    let e = runs::extent_at(terms, h.term, tab, f, structs);
+    let mut memo = [0u8; 256];
+    stands_known(
+        f,
+        terms,
+        structs,
+        Live(r),
+        owner,
+        h.term,
+        &p,
+        e.size,
+        x,
+        t,
+        &q,
+        tab,
+        &mut memo,
+    )
 }
 
 // x is a value of term t under frame k's map.
@@ -129,10 +146,13 @@ fn value_ok(
         return fits(width, x);
     }
     if kind == 2 {
+        if x == 0 {
+            return true;
+        }
         let variable = target_region(f, terms, t);
         let r = entry(s, k, words::wide(variable.0));
         let target = inner(f, terms, t);
-        let there = stands_at(
+        return stands_at(
             f,
             starts,
             functions,
@@ -146,7 +166,6 @@ fn value_ok(
             target,
             x,
         );
-        return (x == 0) | there;
     }
     false
 }

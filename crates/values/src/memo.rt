@@ -21,27 +21,53 @@ fn note(stands: bool) -> u8
     if stands { STANDS } else { STANDS_NOT }
 }
 
-// Whether the run of term t under q stands at byte o of term u under p.
+// Whether the run of term t under q stands at byte o of term u under p, whose objects have this size: at the start of an object of that
+// very type it does.
+fn run_found(
+    f: &[u8],
+    n: usize,
+    k: usize,
+    u: usize,
+    p: &[u8],
+    size: usize,
+    o: usize,
+    t: usize,
+    q: &[u8],
+    tab: &[u64],
+) -> bool
+    requires { ⌜ (Table (now f) n k (now tab)) × (length (now p) ≤ 8) × (length (now q) ≤ 8) × (SizeIs (now f) u size) × (0 < size) × (size ≤ 256) ⌝ }
+    ensures { λ r. ⌜ RunAtIs (now (f .entry)) u (now (p .entry)) o t (now (q .entry)) r ⌝ }
+{
+    if o == 0 {
+        if terms::same_places(f, terms::place_of(n, u), p, terms::place_of(n, t), q) {
+            return true;
+        }
+    }
+    runs::run_at(f, n, k, u, p, o, t, q, tab)
+}
+
+// The same, remembered.
 fn run_known(
     f: &[u8],
     n: usize,
     k: usize,
     u: usize,
     p: &[u8],
+    size: usize,
     o: usize,
     t: usize,
     q: &[u8],
     tab: &[u64],
     memo: &mut [u8; 256],
 ) -> bool
-    requires { ⌜ (Table (now f) n k (now tab)) × (length (now p) ≤ 8) × (length (now q) ≤ 8) × (o < 256) ⌝ ∗ ⌜ Remembers (now f) u (now p) t (now q) (now memo) ⌝ }
+    requires { ⌜ (Table (now f) n k (now tab)) × (length (now p) ≤ 8) × (length (now q) ≤ 8) × (SizeIs (now f) u size) × (0 < size) × (size ≤ 256) × (o < 256) ⌝ ∗ ⌜ Remembers (now f) u (now p) t (now q) (now memo) ⌝ }
     ensures { λ r. ⌜ (RunAtIs (now (f .entry)) u (now (p .entry)) o t (now (q .entry)) r) × (Remembers (now (f .entry)) u (now (p .entry)) t (now (q .entry)) (now (memo .exit))) ⌝ }
 {
     let known = memo[o];
     if known != UNKNOWN {
         return known == STANDS;
     }
-    let stands = runs::run_at(f, n, k, u, p, o, t, q, tab);
+    let stands = run_found(f, n, k, u, p, size, o, t, q, tab);
     memo[o] = note(stands);
     stands
 }
@@ -78,5 +104,5 @@ pub fn stands_known(
     if x / size * size + size > Machine::PAGE_BYTES as usize {
         return false;
     }
-    run_known(f, n, k, u, p, x % size, t, q, tab, memo)
+    run_known(f, n, k, u, p, size, x % size, t, q, tab, memo)
 }

@@ -22,8 +22,8 @@ use terms::live_of;
 use terms::target_region;
 use walk::limits::CALLEES;
 
-// The four bytes from address x on.
-fn word(s: &[u8], x: u32) -> u32
+// The four bytes from address x on, one by one.
+fn bytes(s: &[u8], x: u32) -> u32
     requires { ⌜ x < 2 ^ 30 ⌝ }
     ensures { λ r. ⌜ r ≡ memoryNumber (view (now (s .entry)) .memory) x 4 ⌝ }
 {
@@ -32,6 +32,17 @@ fn word(s: &[u8], x: u32) -> u32
     let c = words::wide(memory_byte(s, x + 2));
     let d = words::wide(memory_byte(s, x + 3));
     a + b * 256 + c * 65536 + d * 16777216
+}
+
+// The four bytes from address x on: one load but at the end of the memory.
+fn word(s: &[u8], x: u32) -> u32
+    requires { ⌜ x < 2 ^ 30 ⌝ }
+    ensures { λ r. ⌜ r ≡ memoryNumber (view (now (s .entry)) .memory) x 4 ⌝ }
+{
+    if x + 4 <= Machine::MEMORY_BYTES {
+        return words::word(s, state::places::memory_place(x));
+    }
+    bytes(s, x)
 }
 
 // Where the pointers of a term lead: into live region `region`, whose objects are of `term` under `map` (frame 0: it is not live), to

@@ -10,8 +10,10 @@ element-copy-out-known c = search needs
 returns : tie.Need-returns
 returns c = (c .before .before .before .before .before .before .pre .1 .each (c .before .before .before .before .before .before .args .o) (c .if1 .taken), c .before .before .before .before .before .before .pre .1)
 
-run-at-requires : tie.Need-run-at-requires
-run-at-requires c κs = search needs
+run-found-requires : tie.Need-run-found-requires
+run-found-requires c κs =
+    let q = c .before .before .before .before .before .before .pre .0 in
+    (q .0, q .1, q .2, q .3, q .4, q .5)
 
 note-requires : tie.Need-note-requires
 note-requires c κs = search needs
@@ -20,7 +22,7 @@ element-write-memo : tie.Need-element-write-memo
 element-write-memo c = search needs
 
 returns-2 : tie.Need-returns-2
-returns-2 c = (c .before .run-at .ensures, remembers-set _ (c .note .ensures) (c .before .run-at .ensures) (c .before .before .before .before .before .before .before .before .pre .1))
+returns-2 c = (c .before .run-found .ensures, remembers-set _ (c .note .ensures) (c .before .run-found .ensures) (c .before .before .before .before .before .before .before .before .pre .1))
 
 pub run-known-spec : {M : Type 1} → statement M
 run-known-spec =
@@ -28,7 +30,7 @@ run-known-spec =
     (tie.spec
     element-copy-out-known
     returns
-    run-at-requires
+    run-found-requires
     note-requires
     element-write-memo
     returns-2)

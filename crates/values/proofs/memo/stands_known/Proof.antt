@@ -59,7 +59,7 @@ run-known-requires : tie.Need-run-known-requires
 run-known-requires c κs =
     let a = c .before .before .before .before .before .before .before .before .before .before .before .args in
     let q = c .before .before .before .before .before .before .before .before .before .before .before .pre in
-    ((q .0 .0, q .0 .1, q .0 .2, rest-few (a .a % 256) (a .size) (omega arith)), q .1)
+    ((q .0 .0, q .0 .1, q .0 .2, q .0 .3, omega (arith, c .before .before .if3 .left), omega (arith, c .before .if4 .left), rest-few (a .a % 256) (a .size) (omega arith)), q .1)
 
 returns-5 : tie.Need-returns-5
 returns-5 c =

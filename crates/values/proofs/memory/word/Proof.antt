@@ -1,84 +1,29 @@
--- `values::memory::word` meets its contract: its four bytes. Assumes nothing.
+-- `values::memory::word` meets its contract: the bytes at its place. Assumes nothing.
+use mathlib.Core.Path.{sym, ap, _∙_}
 use native.Mathlib.Omega.{arith}
-use mathlib.Core.Path.{_≡_, refl, sym, ap, _∙_}
-use Rattle.values.specs.Memory.{word-is}
+use Rattle.words.specs.Bytes.{number}
+use Rattle.state.specs.Reads.{memoryNumber-is}
 use borrow.Author.Needs.{needs}
 use Rattle.values.proofs.memory.word.Statement.{statement}
 use Rattle.values.proofs.memory.word.Tie as tie
 
-memory-byte-requires : tie.Need-memory-byte-requires
-memory-byte-requires c κs = search needs
+add-if1 : tie.Need-add-if1
+add-if1 c = search needs
 
-wide-requires : tie.Need-wide-requires
-wide-requires c κs = search needs
+memory-place-requires : tie.Need-memory-place-requires
+memory-place-requires c κs = search needs
 
-add-memory-byte : tie.Need-add-memory-byte
-add-memory-byte c = search needs
-
-memory-byte-requires-2 : tie.Need-memory-byte-requires-2
-memory-byte-requires-2 c κs = search needs
-
-wide-requires-2 : tie.Need-wide-requires-2
-wide-requires-2 c κs = search needs
-
-add-memory-byte-2 : tie.Need-add-memory-byte-2
-add-memory-byte-2 c = search needs
-
-memory-byte-requires-3 : tie.Need-memory-byte-requires-3
-memory-byte-requires-3 c κs = search needs
-
-wide-requires-3 : tie.Need-wide-requires-3
-wide-requires-3 c κs = search needs
-
-add-memory-byte-3 : tie.Need-add-memory-byte-3
-add-memory-byte-3 c = search needs
-
-memory-byte-requires-4 : tie.Need-memory-byte-requires-4
-memory-byte-requires-4 c κs = search needs
-
-wide-requires-4 : tie.Need-wide-requires-4
-wide-requires-4 c κs = search needs
-
-mul-result : tie.Need-mul-result
-mul-result c = search needs
-
-add-result : tie.Need-add-result
-add-result c = search needs
-
-mul-result-2 : tie.Need-mul-result-2
-mul-result-2 c = search needs
-
-add-result-2 : tie.Need-add-result-2
-add-result-2 c = search needs
-
-mul-result-3 : tie.Need-mul-result-3
-mul-result-3 c = search needs
-
-add-result-3 : tie.Need-add-result-3
-add-result-3 c = search needs
+word-requires : tie.Need-word-requires
+word-requires c κs = search needs
 
 returns : tie.Need-returns
-returns c = word-is _ _ (c .before .before .before .before .before .before .wide .ensures .0 ∙ c .before .before .before .before .before .before .before .memory-byte .ensures) (c .before .before .before .before .wide2 .ensures .0 ∙ c .before .before .before .before .before .memory-byte2 .ensures) (c .before .before .wide3 .ensures .0 ∙ c .before .before .before .memory-byte3 .ensures) (c .wide4 .ensures .0 ∙ c .before .memory-byte4 .ensures)
+returns c = c .word .ensures ∙ ap (number _ _) (c .before .memory-place .ensures) ∙ sym (memoryNumber-is _ _ _ (c .before .before .if1 .taken))
+
+bytes-requires : tie.Need-bytes-requires
+bytes-requires c κs = search needs
+
+returns-2 : tie.Need-returns-2
+returns-2 c = search needs
 
 pub word-spec : {M : Type 1} → statement M
-word-spec =
-    tie.close
-    (tie.spec
-    memory-byte-requires
-    wide-requires
-    add-memory-byte
-    memory-byte-requires-2
-    wide-requires-2
-    add-memory-byte-2
-    memory-byte-requires-3
-    wide-requires-3
-    add-memory-byte-3
-    memory-byte-requires-4
-    wide-requires-4
-    mul-result
-    add-result
-    mul-result-2
-    add-result-2
-    mul-result-3
-    add-result-3
-    returns)
+word-spec = tie.close (tie.spec add-if1 memory-place-requires word-requires returns bytes-requires returns-2)
