@@ -29,7 +29,11 @@ use Rattle.runs.specs.Runs.{RunAtIs, InPageIs, page-none, page-past, page-in, s
 
 -- m remembers at which distances of term u under p the run of term t under q stands: 1 where it does, another number where not
 pub record Remembers (f : Bytes) (u : ℕ) (p : Bytes) (t : ℕ) (q m : Bytes) : Type 0 where
-  pub each : (o : ℕ) → byteAt m o ≢ 0 → RunAtIs f u p o t q (eqb (byteAt m o) 1)
+  pub each : (o : ℕ) → o < 256 → byteAt m o ≢ 0 → RunAtIs f u p o t q (eqb (byteAt m o) 1)
+
+-- m remembers nothing
+pub record Forgotten (m : Bytes) : Type 0 where
+  pub each : (o : ℕ) → o < 256 → byteAt m o ≡ 0
 
 -- objects of term u have this size
 pub record SizeIs (f : Bytes) (u z : ℕ) : Type 0 where
@@ -48,17 +52,27 @@ zeros (suc n) (suc o) = zeros n o
 
 module _ {f : Bytes} {u : ℕ} {p : Bytes} {t : ℕ} {q : Bytes} where
   pub remembers-none : (n : ℕ) → Remembers f u p t q (replicate n 0)
-  remembers-none n = record { each = λ o d. absurd (d (zeros n o)) }
+  remembers-none n = record { each = λ o l d. absurd (d (zeros n o)) }
 
   pub remembers-set : {m : Bytes} (o : ℕ) {v : ℕ} {b : Bool} → Noted b v → RunAtIs f u p o t q b → Remembers f u p t q m → Remembers f u p t q (set m o v)
-  remembers-set {m} o {v} {b} w h r = record { each = λ j d. go j d (ℕ-discrete j o) }
+  remembers-set {m} o {v} {b} w h r = record { each = λ j k d. go j k d (ℕ-discrete j o) }
     where
-      go : (j : ℕ) → byteAt (set m o v) j ≢ 0 → Dec (j ≡ o) → RunAtIs f u p j t q (eqb (byteAt (set m o v) j) 1)
-      go j d (yes e) =
+      go : (j : ℕ) → j < 256 → byteAt (set m o v) j ≢ 0 → Dec (j ≡ o) → RunAtIs f u p j t q (eqb (byteAt (set m o v) j) 1)
+      go j k d (yes e) =
           ⊎-elim (λ l. let g : byteAt (set m o v) j ≡ v = rw e (getD-set-same m o v 0 l) in rw (g, w .is, e) h)
           (λ l. absurd (d (byte-past (set m o v) j (omega (arith, length-set m o v)))))
           (lt-or-le o (length m))
-      go j d (no e) = let g : byteAt (set m o v) j ≡ byteAt m j = getD-set-other m o j v 0 e in rw g (r .each j (rw g at d))
+      go j k d (no e) = let g : byteAt (set m o v) j ≡ byteAt m j = getD-set-other m o j v 0 e in rw g (r .each j k (rw g at d))
+
+  pub remembers-nothing : {m : Bytes} → Forgotten m → Remembers f u p t q m
+  remembers-nothing w = record { each = λ o l d. absurd (d (w .each o l)) }
+
+pub forget-more : (m : Bytes) (i : ℕ) → ((j : ℕ) → j < i → byteAt m j ≡ 0) → (j : ℕ) → j < i + 1 → byteAt (set m i 0) j ≡ 0
+forget-more m i h j l = go (ℕ-discrete j i)
+  where
+    go : Dec (j ≡ i) → byteAt (set m i 0) j ≡ 0
+    go (yes e) = ⊎-elim (λ k. rw e (getD-set-same m i 0 0 k)) (λ k. byte-past (set m i 0) j (omega (arith, length-set m i 0))) (lt-or-le i (length m))
+    go (no d) = getD-set-other m i j 0 0 d ∙ h j (omega (arith, d))
 
 -- ---- the place in a page, from the run
 
@@ -85,7 +99,7 @@ whole-stands m T U e h l =
     sym (does-yes (decRun (flat m T) (positionAt (flat m T) 0) (flat m U))
     (same-run (flat m T) (flat m U) (distance-zero m T l) (record { some = has-some (filled m T l 0 h .has); equal = ap (λ (X : Tree _). flat m X .prims) e })))
 
-same-tree : (j : RegionKind) (f : Bytes) {n a b : ℕ} (u t : ℕ) (p q : Bytes) → Terms f n → a ≡ placeOf n u → b ≡ placeOf n t → placesSame j f a p b q ≡ true
+pub same-tree : (j : RegionKind) (f : Bytes) {n a b : ℕ} (u t : ℕ) (p q : Bytes) → Terms f n → a ≡ placeOf n u → b ≡ placeOf n t → placesSame j f a p b q ≡ true
     → sub (under {k = j} p) (moduleOf f .term u) ≡ sub (under q) (moduleOf f .term t)
 unfolding placesSame
 same-tree j f {n} {a} {b} u t p q terms ea eb h =

@@ -1,13 +1,14 @@
 -- A primitive in the pages: the number that its bytes hold, as a value of a term under regions given as bytes. Assumes nothing.
-use mathlib.Core.Path.{_≡_, refl, sym, ap, _∙_}
-use mathlib.Core.Bool.{Bool}
+use mathlib.Core.Path.{_≡_, refl, sym, ap, subst, _∙_}
+use mathlib.Core.Bool.{Bool, true, false, _&&_}
 use mathlib.Core.Logic.{_≢_, _⊎_, inl, inr, ⊎-elim}
 use Prim.Native.Nat.{ℕ, zero, suc, _+_, _-_, _*_, _^_, _/_, _<_, _≤_}
 use native.Mathlib.Nat.{pow-suc}
 use native.Mathlib.Omega.{arith}
-use lib.ListN.{length}
+use lib.ListN.{length, replicate}
 use Rattle.words.specs.Bytes.{Bytes, AllBytes}
 use Rattle.words.specs.ByteLaws.{length-listOf}
+use Rattle.words.specs.Choose.{true-not-false, both}
 use Rattle.rules.specs.Limits.{pageBytes, mostRegions}
 use Rattle.rules.specs.Types.{variable, live, Variable, Region, Tree, int, ptr, arr, struct, form, inner, regionOf, width, sub}
 use Rattle.rules.specs.Module.{Module}
@@ -16,9 +17,10 @@ use Rattle.rules.specs.Decode.{moduleOf}
 use Rattle.rules.specs.State.{view, pageOwner, memoryByte, memoryNumber, frameMap}
 use Rattle.rules.specs.Heap.{HeapTyping, Stands, decStands, Value}
 use Rattle.state.specs.Reads.{memory-lt}
-use Rattle.terms.specs.Compare.{byteUnder, under, under-is}
+use Rattle.terms.specs.Compare.{byteUnder, under, under-is, placesSame}
 use Rattle.terms.specs.Readers.{Inner}
-use Rattle.terms.specs.Extents.{Small}
+use Rattle.terms.specs.Heads.{placeOf}
+use Rattle.terms.specs.Extents.{Small, Terms}
 use Rattle.terms.specs.declared.Extent.{Extent}
 use Rattle.runs.specs.Table.{exactOf}
 use Rattle.runs.specs.Runs.{StandsIs}
@@ -27,8 +29,9 @@ use Rattle.objects.specs.Homes.{HomeIs}
 use Rattle.objects.specs.declared.Home.{Home}
 use Rattle.runs.specs.Maps.{Narrow, mapList, under-close}
 use Rattle.values.specs.Value.{typingOf}
-use Rattle.values.specs.Memo.{SizeIs}
+use Rattle.values.specs.Memo.{SizeIs, Remembers, Forgotten, remembers-none, remembers-nothing, same-tree}
 use Rattle.values.specs.declared.memory.Target.{Target}
+use Rattle.values.specs.declared.memory.Aim.{Aim}
 
 -- ---- numbers in the pages
 
@@ -133,3 +136,35 @@ stands-under {f} {s} {n} {r} {h} home t q {a} {o} {p} {b} narrow d ep eo is =
     let ty : typingOf f s n .type r ≡ sub (under p) (moduleOf f .term (h .term)) =
     home .some j hj .1 ∙ sym (under-close s j (moduleOf f .term (h .term)) (narrow (h .term))) ∙ ap (λ (l : Bytes). sub (under {k = live} l) (moduleOf f .term (h .term))) (sym ep) in
     does-tells (decStands (moduleOf f) (typingOf f s n) (sub (under q) (moduleOf f .term t)) r a) (is (typingOf f s n) (sym eo) ty)
+
+-- ---- pointers of the same type, one after the other
+
+-- term and regions matter only by the type that they give
+pub primitive-same : {f s : Bytes} {n : ℕ} {to : Bytes} {t : ℕ} {old : Bytes} {u x : ℕ} → sub (under {k = live} old) (moduleOf f .term u) ≡ sub (under to) (moduleOf f .term t)
+    → PrimitiveAt f s n old u x → PrimitiveAt f s n to t x
+primitive-same {f} {s} {n} {x = x} e w =
+    record { is = subst (λ (T : Tree live). Value (moduleOf f) (typingOf f s n) T (memoryNumber (view s .memory) x (width T))) e (w .is) }
+
+-- the last aim, if there is one, with what is remembered of it
+pub record AimIs (f s : Bytes) (n : ℕ) (a : Aim) (m : Bytes) : Type 0 where
+  pub target : a .known ≡ true → TargetIs f s n (a .to) (a .t) (a .target)
+  pub remembers : Remembers f (a .target .term) (a .target .map) (a .target .run) (a .to) m
+
+-- the aim of pointers of term t under `to`
+pub record AimsAt (f s : Bytes) (n : ℕ) (to : Bytes) (t : ℕ) (a : Aim) (m : Bytes) : Type 0 where
+  pub target : TargetIs f s n (a .to) (a .t) (a .target)
+  pub remembers : Remembers f (a .target .term) (a .target .map) (a .target .run) (a .to) m
+  pub same : sub (under {k = live} (a .to)) (moduleOf f .term (a .t)) ≡ sub (under to) (moduleOf f .term t)
+
+pub aim-none : {f s : Bytes} {n : ℕ} {a : Aim} → a .known ≡ false → AimIs f s n a (replicate 256 0)
+aim-none e = record { target = λ h. absurd (true-not-false h e); remembers = remembers-none 256 }
+
+pub aim-kept : {f s : Bytes} {n : ℕ} {to : Bytes} {t : ℕ} {a : Aim} {m : Bytes} {terms x y : ℕ} {b : Bool} → AimIs f s n a m → Terms f terms → x ≡ placeOf terms (a .t) → y ≡ placeOf terms t
+    → (b ≡ placesSame variable f x (a .to) y to) × (b ≡ placesSame live f x (a .to) y to) → (a .known && b) ≡ true → AimsAt f s n to t a m
+aim-kept {f} {to = to} {t = t} {a = a} {b = b} w terms ex ey e h =
+    let k = both (a .known) b h in
+    record { target = w .target (k .0); remembers = w .remembers; same = same-tree live f (a .t) t (a .to) to terms ex ey (sym (e .1) ∙ k .1) }
+
+pub aim-new : {f s : Bytes} {n : ℕ} {to : Bytes} {t : ℕ} {g : Target} {m : Bytes} → TargetIs f s n to t g → Forgotten m
+    → AimsAt f s n to t (record { known = true; t = t; to = to; target = g }) m
+aim-new is w = record { target = is; remembers = remembers-nothing w; same = refl }

@@ -36,7 +36,7 @@ use Rattle.stack.specs.Tells.{Tells, tells-map, tells-yes, tells-not, tells-eq}
 use Rattle.objects.specs.Homes.{regionTree, HomeIs, size-some}
 use Rattle.objects.specs.Ends.{PlacesIn}
 use Rattle.objects.specs.declared.Home.{Home}
-use Rattle.values.specs.Memory.{PrimitiveAt, integer-at, map-short}
+use Rattle.values.specs.Memory.{PrimitiveAt, primitive-same, integer-at, map-short}
 use Rattle.values.specs.Passes.{AllPrimitives}
 use Rattle.values.specs.declared.pages.Objects.{Objects}
 
@@ -66,13 +66,14 @@ pub record ObjectsAre (f s : Bytes) (n p terms structs : ℕ) (o : Objects) : Ty
   pub keeps : Keeps (o .to)
   pub size : o .size ≡ size (moduleOf f) (pageTree f s n p)
   pub count : o .count ≡ count (termLayout f structs (o .place))
+  pub few : o .count ≤ 257
   pub layout : flat (moduleOf f) (pageTree f s n p) ≡ subLayout (under {k = live} (o .to)) (termLayout f structs (o .place))
 
 pub objects-are : {f s : Bytes} {n p r terms structs a : ℕ} {tab : List ℕ} {h : Home} {map to : Bytes} {e : Extent} → Table f terms structs tab → Narrow f → HomeIs f s n r h
     → r ≡ pageOwner s p - 1 → h .frame ≢ 0 → a ≡ placeOf terms (h .term) → map ≡ mapList s (h .frame - 1) → Agree to map
-    → e ≡ exactOf (flat (moduleOf f) (moduleOf f .term (h .term)))
+    → e ≡ exactOf (flat (moduleOf f) (moduleOf f .term (h .term))) → e .count ≤ 257
     → ObjectsAre f s n p terms structs (record { place = a; to = to; size = e .size; count = e .count })
-objects-are {f} {s} {n} {p} {r} {terms} {structs} {a} {tab} {h} {map} {to} {e} table narrow home er d ea em agree ee =
+objects-are {f} {s} {n} {p} {r} {terms} {structs} {a} {tab} {h} {map} {to} {e} table narrow home er d ea em agree ee few =
     let k : ℕ = h .frame - 1 in
     let hk : h .frame ≡ suc k = omega (arith, d) in
     let T : Tree variable = moduleOf f .term (h .term) in
@@ -85,6 +86,7 @@ objects-are {f} {s} {n} {p} {r} {terms} {structs} {a} {tab} {h} {map} {to} {e} t
       keeps = keeps;
       size = size-some home d z ∙ ap (λ (x : ℕ). size (moduleOf f) (regionTree f s n x)) er;
       count = ap (λ (x : Extent). x .count) ee ∙ ap (λ (L : Layout variable). count L) (sym (ap (termLayout f structs) ea ∙ layout-term f terms structs (table .counted) (h .term)));
+      few = few;
       layout = ap (flat (moduleOf f)) tree ∙ sym (layout-under live f terms structs (table .counted) (h .term) map to keeps agree)
           ∙ ap (λ (x : ℕ). subLayout (under {k = live} to) (termLayout f structs x)) (sym ea);
     }
@@ -162,6 +164,7 @@ objects-at {f} {s} {n} e are =
       keeps = are .keeps;
       size = are .size ∙ ap (size (moduleOf f)) t;
       count = are .count;
+      few = are .few;
       layout = ap (flat (moduleOf f)) (sym t) ∙ are .layout;
     }
 
@@ -175,6 +178,13 @@ places-other e h = tells-yes (record { is = λ k. absurd (h (e ∙ k)) })
 pub places-owned : {f s : Bytes} {n x z : ℕ} {to : Bytes} {t d q o : ℕ} {b : Bool} → o ≡ pageOwner s q → o ≡ x
     → Tells b ((j : ℕ) → j < pageBytes → PlaceOk f s n q z to t d j) → Tells b (OwnedPlaces f s n x z to t d q)
 places-owned e h u = tells-map (λ w. record { is = λ k. w }) (λ w. w .is (sym e ∙ h)) u
+
+-- the same of another term, of the same type
+pub places-same : {f s : Bytes} {n x z : ℕ} {to : Bytes} {t d : ℕ} {old : Bytes} {u : ℕ} {b : Bool} → sub (under {k = live} old) (moduleOf f .term u) ≡ sub (under to) (moduleOf f .term t)
+    → Tells b ((q : ℕ) → q < pages → OwnedPlaces f s n x z old u d q) → Tells b ((q : ℕ) → q < pages → OwnedPlaces f s n x z to t d q)
+places-same e v =
+    tells-map (λ w q h. record { is = λ o j l. record { is = λ k. primitive-same e (w q h .is o j l .is k) } })
+    (λ w q h. record { is = λ o j l. record { is = λ k. primitive-same (sym e) (w q h .is o j l .is k) } }) v
 
 -- primitive i of each object of each page with page p's owner
 pub record OwnedPosition (f s : Bytes) (n p i : ℕ) : Type 0 where

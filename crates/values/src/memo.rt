@@ -4,7 +4,7 @@ ghost use Prim.Native.Nat.{_<_, _≤_};
 ghost use lib.ListN.{length};
 ghost use Rattle.runs.specs.Table.{Table};
 ghost use Rattle.runs.specs.Runs.{RunAtIs, StandsIs};
-ghost use Rattle.values.specs.Memo.{Noted, Remembers, SizeIs};
+ghost use Rattle.values.specs.Memo.{Forgotten, Noted, Remembers, SizeIs};
 use state::Machine;
 use terms::Live;
 
@@ -19,6 +19,17 @@ fn note(stands: bool) -> u8
     ensures { λ v. ⌜ Noted stands v ⌝ }
 {
     if stands { STANDS } else { STANDS_NOT }
+}
+
+// Nothing is remembered any more.
+pub fn forget(memo: &mut [u8; 256])
+    ensures { λ _. ⌜ Forgotten (now (memo .exit)) ⌝ }
+{
+    let mut i = 0;
+    while i < 256 {
+        memo[i] = UNKNOWN;
+        i += 1;
+    }
 }
 
 // Whether the run of term t under q stands at byte o of term u under p, whose objects have this size: at the start of an object of that

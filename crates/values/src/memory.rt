@@ -1,5 +1,6 @@
 // A pointer in the pages as a value of a term, whose regions are given as bytes. (An integer's bytes always hold one of its values.)
 ghost use mathlib.Core.Path.{_≡_};
+ghost use mathlib.Core.Bool.{false};
 ghost use mathlib.Core.Logic.{_≢_};
 ghost use Prim.Native.Nat.{_-_, _<_, _^_};
 ghost use Rattle.rules.specs.Types.{form};
@@ -9,9 +10,10 @@ ghost use Rattle.runs.specs.Table.{Table};
 ghost use Rattle.stack.specs.Tells.{Tells};
 ghost use Rattle.stack.specs.Facts.{Known};
 ghost use Rattle.runs.specs.Maps.{Narrow, mapList};
-ghost use Rattle.values.specs.Memory.{PrimitiveAt, TargetIs};
+ghost use Rattle.values.specs.Memory.{PrimitiveAt, TargetIs, AimIs, AimsAt};
 ghost use Rattle.values.specs.Memo.{Remembers};
 use crate::map_of;
+use crate::memo::forget;
 use crate::memo::stands_known;
 use objects::home_of;
 use state::Machine;
@@ -97,6 +99,70 @@ pub fn target_of(
         map,
         size: e.size,
         run,
+    }
+}
+
+// Where the pointers that were looked at last lead, if there were any: those of term t under `to`.
+pub struct Aim {
+    pub known: bool,
+    pub t: usize,
+    pub to: [u8; 8],
+    pub target: Target,
+}
+
+// The aim of no pointer.
+pub fn no_aim() -> Aim
+    ensures { λ a. ⌜ a .known ≡ false ⌝ }
+{
+    let map = [0u8; 7];
+    let to = [0u8; 8];
+    let target = Target {
+        region: 0,
+        frame: 0,
+        term: 0,
+        map,
+        size: 0,
+        run: 0,
+    };
+    Aim {
+        known: false,
+        t: 0,
+        to,
+        target,
+    }
+}
+
+// Where pointers of term t under `to` lead: that of the last aim, with what is remembered of it, if they are of the same type.
+pub fn aim_at(
+    f: &[u8],
+    starts: &[usize; CALLEES],
+    functions: usize,
+    terms: usize,
+    structs: usize,
+    tab: &[u64],
+    s: &[u8],
+    n: u32,
+    to: [u8; 8],
+    t: usize,
+    last: Aim,
+    memo: &mut [u8; 256],
+) -> Aim
+    requires { ⌜ Known (now f) (now starts) functions ⌝ ∗ ⌜ Table (now f) terms structs (now tab) ⌝ ∗ ⌜ form (moduleOf (now f) .term t) ≡ 2 ⌝ ∗ ⌜ AimIs (now f) (now s) n last (now memo) ⌝ }
+    ensures { λ a. ⌜ AimsAt (now (f .entry)) (now (s .entry)) n to t a (now (memo .exit)) ⌝ }
+{
+    let old = last.to;
+    let here = terms::place_of(terms, t);
+    let there = terms::place_of(terms, last.t);
+    if last.known & terms::same_places(f, there, &old, here, &to) {
+        return last;
+    }
+    let target = target_of(f, starts, functions, terms, structs, tab, s, n, to, t);
+    forget(memo);
+    Aim {
+        known: true,
+        t,
+        to,
+        target,
     }
 }
 

@@ -10,14 +10,16 @@ ghost use Rattle.runs.specs.Maps.{Narrow};
 ghost use Rattle.stack.specs.Tells.{Tells};
 ghost use Rattle.stack.specs.Facts.{Known};
 ghost use Rattle.objects.specs.Homes.{HomeIs};
-ghost use Rattle.values.specs.Memory.{TargetIs};
+ghost use Rattle.values.specs.Memory.{TargetIs, AimIs};
 ghost use Rattle.values.specs.Passes.{AllPrimitives};
 ghost use Rattle.values.specs.Pages.{PlaceOk, OwnedPlaces, OwnedPosition, Apart, Leads, ObjectsAre};
 ghost use Rattle.values.specs.Memo.{Remembers};
 use crate::map_of;
+use crate::memory::Aim;
 use crate::memory::Target;
+use crate::memory::aim_at;
+use crate::memory::no_aim;
 use crate::memory::pointer_ok;
-use crate::memory::target_of;
 use objects::Home;
 use objects::home_of;
 use objects::places_in;
@@ -137,11 +139,11 @@ fn all_places(
     t: usize,
     d: usize,
     g: Target,
+    memo: &mut [u8; 256],
 ) -> bool
-    requires { ⌜ Table (now f) terms structs (now tab) ⌝ ∗ ⌜ Narrow (now f) ⌝ ∗ ⌜ (d ≤ 256) × (TargetIs (now f) (now s) n to t g) ⌝ }
-    ensures { λ b. ⌜ Tells b ((q : ℕ) → q < pages → OwnedPlaces (now (f .entry)) (now (s .entry)) n owner size to t d q) ⌝ }
+    requires { ⌜ Table (now f) terms structs (now tab) ⌝ ∗ ⌜ Narrow (now f) ⌝ ∗ ⌜ (d ≤ 256) × (TargetIs (now f) (now s) n to t g) × (Remembers (now f) (g .term) (g .map) (g .run) to (now memo)) ⌝ }
+    ensures { λ b. ⌜ (Tells b ((q : ℕ) → q < pages → OwnedPlaces (now (f .entry)) (now (s .entry)) n owner size to t d q)) × (Remembers (now (f .entry)) (g .term) (g .map) (g .run) to (now (memo .exit))) ⌝ }
 {
-    let mut memo = [0u8; 256];
     let mut q = 0;
     while q < Machine::PAGES {
         if !owned_places(
@@ -158,13 +160,19 @@ fn all_places(
             d,
             g,
             q,
-            &mut memo,
+            memo,
         ) {
             return false;
         }
         q += 1;
     }
     true
+}
+
+// The answer on a position, and the aim of its pointers, or of those before.
+pub struct Looked {
+    pub ok: bool,
+    pub aim: Aim,
 }
 
 // Primitive i of each object of each page with page p's owner. (An integer's bytes always hold one of its values: nothing is read.)
@@ -180,9 +188,11 @@ fn position_ok(
     p: u32,
     o: Objects,
     i: usize,
-) -> bool
-    requires { ⌜ Known (now f) (now starts) functions ⌝ ∗ ⌜ Table (now f) terms structs (now tab) ⌝ ∗ ⌜ Narrow (now f) ⌝ ∗ ⌜ (p < pages) × (i < o .count) × (ObjectsAre (now f) (now s) n p terms structs o) ⌝ }
-    ensures { λ b. ⌜ Tells b (OwnedPosition (now (f .entry)) (now (s .entry)) n p i) ⌝ }
+    last: Aim,
+    memo: &mut [u8; 256],
+) -> Looked
+    requires { ⌜ Known (now f) (now starts) functions ⌝ ∗ ⌜ Table (now f) terms structs (now tab) ⌝ ∗ ⌜ Narrow (now f) ⌝ ∗ ⌜ (p < pages) × (i < o .count) × (ObjectsAre (now f) (now s) n p terms structs o) × (AimIs (now f) (now s) n last (now memo)) ⌝ }
+    ensures { λ r. ⌜ (Tells (r .ok) (OwnedPosition (now (f .entry)) (now (s .entry)) n p i)) × (AimIs (now (f .entry)) (now (s .entry)) n (r .aim) (now (memo .exit))) ⌝ }
 {
     let regions = o.to;
     let x = runs::place_prim(f, terms, structs, o.place, regions, i, tab);
@@ -190,11 +200,44 @@ fn position_ok(
     let t = term_at(terms, x.place);
     let kind = form(f, terms, t);
     if kind == 1 {
-        return true;
+        return Looked {
+            ok: true,
+            aim: last,
+        };
     }
-    let g = target_of(f, starts, functions, terms, structs, tab, s, n, to, t);
+    let aim = aim_at(
+        f,
+        starts,
+        functions,
+        terms,
+        structs,
+        tab,
+        s,
+        n,
+        to,
+        t,
+        last,
+        memo,
+    );
     let owner = state::total::owner(s, p);
-    all_places(f, terms, structs, tab, s, n, owner, o.size, to, t, x.off, g)
+    let regions_there = aim.to;
+    let target = aim.target;
+    let ok = all_places(
+        f,
+        terms,
+        structs,
+        tab,
+        s,
+        n,
+        owner,
+        o.size,
+        regions_there,
+        aim.t,
+        x.off,
+        target,
+        memo,
+    );
+    Looked { ok, aim }
 }
 
 fn positions_ok(
@@ -213,11 +256,29 @@ fn positions_ok(
     ensures { λ b. ⌜ Tells b ((i : ℕ) → i < o .count → OwnedPosition (now (f .entry)) (now (s .entry)) n p i) ⌝ }
 {
     let many = o.count;
+    let mut memo = [0u8; 256];
+    let mut last = no_aim();
     let mut i = 0;
     while i < many {
-        if !position_ok(f, starts, functions, terms, structs, tab, s, n, p, o, i) {
+        let r = position_ok(
+            f,
+            starts,
+            functions,
+            terms,
+            structs,
+            tab,
+            s,
+            n,
+            p,
+            o,
+            i,
+            last,
+            &mut memo,
+        );
+        if !r.ok {
             return false;
         }
+        last = r.aim;
         i += 1;
     }
     true

@@ -8,7 +8,7 @@ element-copy-out-known : tie.Need-element-copy-out-known
 element-copy-out-known c = search needs
 
 returns : tie.Need-returns
-returns c = (c .before .before .before .before .before .before .pre .1 .each (c .before .before .before .before .before .before .args .o) (c .if1 .taken), c .before .before .before .before .before .before .pre .1)
+returns c = (c .before .before .before .before .before .before .pre .1 .each (c .before .before .before .before .before .before .args .o) (c .before .before .before .before .before .before .pre .0 .6) (c .if1 .taken), c .before .before .before .before .before .before .pre .1)
 
 run-found-requires : tie.Need-run-found-requires
 run-found-requires c κs =
