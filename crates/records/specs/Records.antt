@@ -10,10 +10,12 @@ use Rattle.words.specs.First.{first}
 use Rattle.words.specs.FirstLaws.{first-is}
 use Rattle.rules.specs.File.{records, recordOf}
 use Rattle.rules.specs.Walk.{Scan, scan, whole}
-use Rattle.rules.specs.Records.{fitsIn, fits, endFits, recordTest}
+use Rattle.rules.specs.Records.{isFiller, fitsIn, fits, endFits, recordTest}
 use Rattle.rules.specs.declared.Record.{Record}
 use Rattle.rules.specs.declared.Walk.{Walk}
 use Rattle.rules.specs.declared.Phase.{Phase}
+use Rattle.rules.specs.declared.Phase.the-variants.{Filler}
+use Rattle.walk.specs.Scan.{inFiller, in-filler, next-filler, walk-more}
 use Rattle.typing.specs.Walk.{test-at, test-end}
 
 module _ (f : Bytes) {n : ℕ} (hn : n ≡ records f) {r : ℕ} {w : Walk} (hw : w ≡ scan f r .walk) where
@@ -48,3 +50,25 @@ module _ (f : Bytes) {n : ℕ} (hn : n ≡ records f) {r : ℕ} {w : Walk} (hw :
 pub fits-in : (f : Bytes) (t : Scan) (w : Walk) (x : Record) {p : Phase} → w .phase ≡ p → fits f t w x ≡ fitsIn p f t w x
 unfolding fits
 fits-in f t w x e = ap (λ (q : Phase). fitsIn q f t w x) e
+
+-- ---- the filler
+
+-- before record r the walk is in the filler, and no record is at fault
+pub record Filled (f : Bytes) (r : ℕ) : Type 0 where
+  pub phase : scan f r .walk .phase ≡ Filler
+  pub before : (j : ℕ) → j < r → recordTest f j ≡ true
+
+pub filled : (f : Bytes) {r : ℕ} {w : Walk} → w ≡ scan f r .walk → inFiller (w .phase) ≡ true → ((j : ℕ) → j < r → recordTest f j ≡ true) → Filled f r
+filled f {r} {w} hw e before = record { phase = rw (← hw) (in-filler (w .phase) e); before = before }
+
+module _ (f : Bytes) {n : ℕ} (hn : n ≡ records f) {r : ℕ} (at : Filled f r) (h : r < n) where
+  pub filler-test : {x : Record} {b : Bool} → x ≡ recordOf f r → b ≡ isFiller x → recordTest f r ≡ b
+  unfolding fitsIn
+  filler-test {x} {b} hx hb =
+      test-at f r (omega arith) ∙ fits-in f (whole f) (scan f r .walk) (recordOf f r) (at .phase) ∙ sym (rw hx at hb)
+
+  pub filled-more : recordTest f r ≡ true → Filled f (r + 1)
+  filled-more e = record {
+    phase = rw (walk-more, next-filler (scan f r .walk) (recordOf f r) r (at .phase)) (at .phase);
+    before = below-more _ r (at .before) e;
+  }

@@ -101,7 +101,7 @@ pub fn end_fits(p: Phase) -> bool
 
 // ---- terms, names and functions
 
-fn is_filler(x: Record) -> bool
+pub fn is_filler(x: Record) -> bool
     ensures { λ b. ⌜ b ≡ isFiller x ⌝ }
 {
     (((x.kind == FILLER) & (x.a == 0)) & ((x.b == 0) & (x.c == 0))) & (x.d == 0)

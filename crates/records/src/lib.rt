@@ -1,19 +1,36 @@
 // Refusals 1 to 4: framing, and each record against what the walk over the file says that it is to be. Each contract is an equation with a
 // definition of rules' specs/ or of specs/, for every byte slice.
 ghost use mathlib.Core.Path.{_≡_};
-ghost use Prim.Native.Nat.{_+_};
+ghost use Prim.Native.Nat.{_+_, _≤_};
 ghost use Rattle.words.specs.First.{first};
 ghost use Rattle.rules.specs.File.{records};
 ghost use Rattle.rules.specs.Records.{recordTest};
 ghost use Rattle.walk.specs.Tables.{tablesOf};
 ghost use Rattle.records.specs.Outcome.{recordsOf};
 ghost use Rattle.records.specs.Checked.{checkedOf};
+ghost use Rattle.records.specs.Records.{Filled};
 use framing::Outcome;
 use walk::tables::Tables;
 
 pub mod fits;
 pub mod framing;
 pub mod operands;
+
+// The first place at which refusal 4 is due, where the walk is in the filler before record `from`, and no record before it is at fault.
+fn filler_fault(f: &[u8], n: usize, from: usize) -> usize
+    requires { ⌜ n ≡ records (now f) ⌝ ∗ ⌜ Filled (now f) from ⌝ ∗ ⌜ from ≤ n ⌝ }
+    ensures { λ p. ⌜ p ≡ first (records (now (f .entry)) + 1) (recordTest (now (f .entry))) ⌝ }
+{
+    let mut r = from;
+    while r < n {
+        let x = walk::file::record_at(f, r);
+        if !fits::is_filler(x) {
+            return r;
+        }
+        r = r + 1;
+    }
+    n + 1
+}
 
 // The first place at which refusal 4 is due: a record, or their number where the file ends too soon; else one more.
 pub fn first_fault(f: &[u8], t: Tables) -> usize
@@ -26,6 +43,10 @@ pub fn first_fault(f: &[u8], t: Tables) -> usize
     let mut w = walk::step::start();
     let mut r = 0;
     while r < n {
+        let p = w.phase;
+        if walk::step::in_filler(p) {
+            return filler_fault(f, n, r);
+        }
         let x = walk::file::record_at(f, r);
         if !fits::fits(f, &starts, end, w, x) {
             return r;

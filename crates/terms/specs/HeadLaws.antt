@@ -10,7 +10,7 @@ use lib.Dec.{ltb, eqb}
 use lib.ListN.{length, getD, length-append, List·getD-append, List·getD-eq-default}
 use lib.Seq.{getD-at}
 use Rattle.words.specs.Bytes.{Bytes, AllBytes, listFrom}
-use Rattle.words.specs.ByteLaws.{listOf-agree, number-past, number-lt, byte-past}
+use Rattle.words.specs.ByteLaws.{listOf-agree, number-lt}
 use Rattle.words.specs.Choose.{cond-lt, cond-nlt, cond-ne, cond-ap, cond-split, lt-or-le, split-lt}
 use Rattle.rules.specs.File.{recordOf, recordStart, byteOfD, entryOf}
 use Rattle.rules.specs.Types.{variable, Variable, region, Tree, int, ptr, arr, struct}
@@ -48,15 +48,6 @@ entry-rest x (suc (suc (suc j))) d r h e q =
     let z : suc (suc (suc j)) - 3 ≡ j = omega arith in
     let p : r ≡ digit d j = q ∙ ap (digit d) z in
     (p ∙ ap (λ (v : ℕ). digit v j) (e .0) ∙ digit-byte x j, rw p (digit-lt d j (e .1)))
-
--- ---- records past the end
-
-pub record-past : (f : Bytes) (r : ℕ) → length f / 8 < r → record { kind = 0; a = 0; b = 0; c = 0; d = 0 } ≡ recordOf f r
-unfolding recordOf recordStart
-record-past f r h =
-    let o : ℕ = 512 * (r / 63) + 4 + 8 * (r % 63) in
-    let far : length f ≤ o = omega arith in
-    sym (simp (byte-past f o far, byte-past f (o + 1) (omega arith), byte-past f (o + 2) (omega arith), byte-past f (o + 3) (omega arith), number-past 4 f (o + 4) (omega arith)))
 
 -- ---- the head by the record's kind
 

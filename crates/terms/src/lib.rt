@@ -19,8 +19,7 @@ ghost use Rattle.terms.specs.Compare.{byteUnder, under, argsSame, headsS
 ghost use Rattle.terms.specs.Bounds.{bound, boundOf, headBound};
 ghost use Rattle.terms.specs.Readers.{Reads, Inner};
 use rules::Record;
-use words::byte;
-use words::word;
+use words::word_at;
 
 // What a term's record says: inner terms by place, region arguments by how many, and the number that holds them.
 pub enum Head {
@@ -48,27 +47,22 @@ pub struct Live(pub u8);
 
 // ---- records
 
-// Record r. (The test keeps the place from wrapping: record r starts at byte 8 r or later.)
+// Record r. One test for all its bytes: its block is in the file.
 pub fn record_at(f: &[u8], r: usize) -> Record
     ensures { λ x. ⌜ x ≡ recordOf (now (f .entry)) r ⌝ }
 {
-    if r <= f.len() / 8 {
-        let o = 512 * (r / 63) + 4 + 8 * (r % 63);
+    let block = r / 63;
+    if block < f.len() / 512 {
+        let o = 512 * block + 4 + 8 * (r % 63);
         Record {
-            kind: byte(f, o),
-            a: byte(f, o + 1),
-            b: byte(f, o + 2),
-            c: byte(f, o + 3),
-            d: word(f, o + 4),
+            kind: f[o],
+            a: f[o + 1],
+            b: f[o + 2],
+            c: f[o + 3],
+            d: word_at(f, o + 4),
         }
     } else {
-        Record {
-            kind: 0,
-            a: 0,
-            b: 0,
-            c: 0,
-            d: 0,
-        }
+        walk::file::last_record(f, r)
     }
 }
 

@@ -1,12 +1,14 @@
 -- Laws of the walk for code that goes from record to record: the walk before the next record, and that its counts fit a machine word.
 -- Assumes nothing.
-use mathlib.Core.Path.{_≡_, refl, ap}
-use mathlib.Core.Bool.{Bool, cond}
+use mathlib.Core.Path.{_≡_, refl, ap, _∙_}
+use mathlib.Core.Bool.{Bool, true, false, cond}
 use mathlib.Core.Logic.{_⊎_, inl, inr, ⊎-elim}
-use Prim.Native.Nat.{ℕ, _+_, _-_, _<_, _≤_, _^_}
+use Prim.Native.Nat.{ℕ, zero, suc, _+_, _-_, _<_, _≤_, _^_}
 use native.Mathlib.Numerals.{add-one}
 use native.Mathlib.Omega.{arith}
 use lib.Dec.{ltb, leb, eqb}
+use native.Mathlib.Decide.{decLt}
+use borrow.Author.Tests.{le-ltb}
 use Rattle.words.specs.Bytes.{Bytes}
 use Rattle.words.specs.Choose.{cond-split}
 use Rattle.rules.specs.Limits.{mostEntries}
@@ -158,3 +160,47 @@ walk-more f r = ap (λ (s : Scan). s .walk) (scan-more f r)
 
 pub step-walk : (f : Bytes) (r : ℕ) {w v : Walk} {x : Record} → w ≡ scan f r .walk → x ≡ recordOf f r → v ≡ next w x r → v ≡ scan f (r + 1) .walk
 step-walk f r {w} {v} {x} hw hx hv = rw (walk-more, ← hw, ← hx) hv
+
+-- ---- in the filler the walk stays as it is
+
+abbrev pub inFiller : Phase → Bool
+inFiller Terms = false
+inFiller Names = false
+inFiller Fields = false
+inFiller Functions = false
+inFiller Regions = false
+inFiller Registers = false
+inFiller Code = false
+inFiller Arguments = false
+inFiller Filler = true
+inFiller Broken = false
+
+pub in-filler : (p : Phase) → inFiller p ≡ true → p ≡ Filler
+in-filler Terms e = cc
+in-filler Names e = cc
+in-filler Fields e = cc
+in-filler Functions e = cc
+in-filler Regions e = cc
+in-filler Registers e = cc
+in-filler Code e = cc
+in-filler Arguments e = cc
+in-filler Filler e = refl
+in-filler Broken e = cc
+
+pub next-filler : (w : Walk) (x : Record) (r : ℕ) → w .phase ≡ Filler → next w x r ≡ w
+unfolding step
+next-filler w x r e = next-in w x r e
+
+scan-filler-next : (f : Bytes) (s : Scan) (r : ℕ) → s .walk .phase ≡ Filler → nextScan f s r ≡ s
+unfolding nextScan
+scan-filler-next f s r e =
+    rw (next-filler (s .walk) (recordOf f r) r e, le-ltb (s .walk .functions) (s .walk .functions) (omega arith))
+
+pub scan-filler : (f : Bytes) (r : ℕ) → scan f r .walk .phase ≡ Filler → (n : ℕ) → r ≤ n → scan f n ≡ scan f r
+unfolding scan
+scan-filler f r e zero h = let z : r ≡ 0 = omega arith in rw z
+scan-filler f r e (suc n) h = by (decLt n r) (scan-filler f r e n)
+  where
+    by : Dec (n < r) → (r ≤ n → scan f n ≡ scan f r) → scan f (suc n) ≡ scan f r
+    by (yes l) k = let z : r ≡ suc n = omega arith in rw z
+    by (no l) k = rw (k (omega arith)) (scan-filler-next f (scan f r) n e)

@@ -24,8 +24,9 @@ use Rattle.rules.specs.Records.{headOf}
 use Rattle.rules.specs.Decode.{functionOf, moduleOf, startOf}
 use Rattle.rules.specs.Verdict.{instructions}
 use Rattle.rules.specs.declared.Walk.{Walk}
+use Rattle.rules.specs.declared.Phase.the-variants.{Filler}
 use Rattle.walk.specs.declared.tables.Tables.{Tables}
-use Rattle.walk.specs.Scan.{callees, Room, Counts, counts-start, counts-room, counts-next, grown-next, scan-more}
+use Rattle.walk.specs.Scan.{callees, Room, Counts, counts-start, counts-room, counts-next, grown-next, scan-more, inFiller, in-filler, scan-filler}
 use Rattle.walk.specs.Record.{byte-of}
 use Rattle.typing.specs.Lists.{getD-left, getD-last, getD-past}
 
@@ -153,6 +154,14 @@ pub tables-at : (f : Bytes) {n r : ℕ} {w : Walk} {hs : List ℕ} → n ≡ rec
     → record { walk = w; starts = hs } ≡ tablesOf f
 unfolding tablesOf startsOf whole
 tables-at f hn hr hw hh = rw (hw, hh, hr, hn)
+
+-- the filler holds nothing that the tables have
+pub tables-filler : (f : Bytes) {n r : ℕ} {w : Walk} {hs : List ℕ} → n ≡ records f → r ≤ n → w ≡ scan f r .walk → hs ≡ entries (scan f r .starts)
+    → inFiller (w .phase) ≡ true → record { walk = w; starts = hs } ≡ tablesOf f
+unfolding tablesOf startsOf whole
+tables-filler f {n} {r} {w} {hs} hn hr hw hh e =
+    let p : scan f r .walk .phase ≡ Filler = rw (← hw) (in-filler (w .phase) e) in
+    rw (scan-filler f r p (records f) (omega arith), hw, hh)
 
 pub tables-walk : (f : Bytes) → tablesOf f .walk ≡ whole f .walk
 unfolding tablesOf

@@ -15,8 +15,9 @@ pub fn count(f: &[u8]) -> usize
     BLOCK_RECORDS * (f.len() / BLOCK_BYTES)
 }
 
-// Record r. (Past the file's last block all is zero, and no index wraps.)
-pub fn record_at(f: &[u8], r: usize) -> Record
+// Record r of a file that ends before the record's block does: what is not there is zero, and no index wraps. (Two readers call it, so LLVM
+// leaves it out of them, and the reader of a record that is there is short.)
+pub fn last_record(f: &[u8], r: usize) -> Record
     ensures { λ x. ⌜ x ≡ recordOf (now (f .entry)) r ⌝ }
 {
     let block = r / BLOCK_RECORDS;
@@ -37,6 +38,25 @@ pub fn record_at(f: &[u8], r: usize) -> Record
             c: 0,
             d: 0,
         }
+    }
+}
+
+// Record r. One test for all its bytes: its block is in the file.
+pub fn record_at(f: &[u8], r: usize) -> Record
+    ensures { λ x. ⌜ x ≡ recordOf (now (f .entry)) r ⌝ }
+{
+    let block = r / BLOCK_RECORDS;
+    if block < f.len() / BLOCK_BYTES {
+        let o = BLOCK_BYTES * block + RECORDS_IN + RECORD_BYTES * (r % BLOCK_RECORDS);
+        Record {
+            kind: f[o],
+            a: f[o + 1],
+            b: f[o + 2],
+            c: f[o + 3],
+            d: words::word_at(f, o + 4),
+        }
+    } else {
+        last_record(f, r)
     }
 }
 

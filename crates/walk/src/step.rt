@@ -4,7 +4,7 @@ ghost use mathlib.Core.Path.{_≡_};
 ghost use Rattle.rules.specs.File.{isTerm, isInstruction};
 ghost use Rattle.rules.specs.Walk.{to, start, toCode, toRegisters, headed, opened, toTerm, named, done, called, toFunction, toName, step, next};
 ghost use Rattle.rules.specs.declared.Phase.the-variants.{Terms, Fields, Regions, Registers, Code, Arguments};
-ghost use Rattle.walk.specs.Scan.{Room};
+ghost use Rattle.walk.specs.Scan.{Room, inFiller};
 use crate::file::instructions_of;
 use crate::file::regions_of;
 use crate::limits::ARGUMENTS;
@@ -272,6 +272,24 @@ fn in_arguments(w: Walk, x: Record, r: usize) -> Walk
         done(w)
     } else {
         to(w, Phase::Broken, 0)
+    }
+}
+
+// The walk is in the filler, and stays as it is.
+pub fn in_filler(p: Phase) -> bool
+    ensures { λ b. ⌜ b ≡ inFiller p ⌝ }
+{
+    match p {
+        Phase::Terms => false,
+        Phase::Names => false,
+        Phase::Fields => false,
+        Phase::Functions => false,
+        Phase::Regions => false,
+        Phase::Registers => false,
+        Phase::Code => false,
+        Phase::Arguments => false,
+        Phase::Filler => true,
+        Phase::Broken => false,
     }
 }
 

@@ -25,7 +25,7 @@ pub fn no_tables() -> Tables
     Tables { walk: w, starts }
 }
 
-// One pass over the records.
+// One pass over the records, up to the filler.
 pub fn tables_of(f: &[u8]) -> Tables
     ensures { λ t. ⌜ t ≡ tablesOf (now (f .entry)) ⌝ }
 {
@@ -34,6 +34,10 @@ pub fn tables_of(f: &[u8]) -> Tables
     let mut starts = [0usize; CALLEES];
     let mut r = 0;
     while r < n {
+        let p = w.phase;
+        if crate::step::in_filler(p) {
+            return Tables { walk: w, starts };
+        }
         let x = crate::file::record_at(f, r);
         let v = crate::step::next(w, x, r);
         let g = w.functions;

@@ -11,7 +11,7 @@ use Rattle.walk.specs.Tables.{startsOf, tables-walk, tables-starts, records-few
 use Rattle.walk.specs.Scan.{scan-start, step-walk}
 use Rattle.rules.specs.Walk.{scan, whole}
 use Rattle.walk.specs.declared.tables.Tables.{Tables}
-use Rattle.records.specs.Records.{record-test, record-fails, ends-short, none-fails}
+use Rattle.records.specs.Records.{filled, record-test, record-fails, ends-short, none-fails}
 use Rattle.records.proofs.first_fault.Statement.{statement}
 use Rattle.records.proofs.first_fault.Tie as tie
 
@@ -35,19 +35,28 @@ loop-holds c = (
   below-none _,
 )
 
+in-filler-requires : tie.Need-in-filler-requires Inv-loop μ-loop
+in-filler-requires c κs = search needs
+
+filler-fault-requires : tie.Need-filler-fault-requires Inv-loop μ-loop
+filler-fault-requires c κs = (c .before .before .before .before .before .before .before .count .ensures, (filled _ (c .before .before .before .loop .inv .1) (sym (c .before .in-filler .ensures) ∙ c .if1 .taken) (c .before .before .before .loop .inv .3), omega arith))
+
+returns : tie.Need-returns Inv-loop μ-loop
+returns c = search needs
+
 record-at-requires : tie.Need-record-at-requires Inv-loop μ-loop
 record-at-requires c κs = search needs
 
 fits-requires : tie.Need-fits-requires Inv-loop μ-loop
-fits-requires c κs = (c .before .before .before .loop .inv .2 .0, (c .before .before .before .loop .inv .2 .1, callee-at (c .before .before .before .before .before .before .before .before .before .args .f .now) (λ i. omega (arith, c .before .before .before .before .before .before .before .before .shared-slice-known .given i)) _ (c .before .before .before .loop .inv .1)))
+fits-requires c κs = (c .before .before .before .before .before .loop .inv .2 .0, (c .before .before .before .before .before .loop .inv .2 .1, callee-at (c .before .before .before .before .before .before .before .before .before .before .before .args .f .now) (λ i. omega (arith, c .before .before .before .before .before .before .before .before .before .before .shared-slice-known .given i)) _ (c .before .before .before .before .before .loop .inv .1)))
 
-returns : tie.Need-returns Inv-loop μ-loop
-returns c =
-    record-fails _ (c .before .before .before .before .before .before .before .before .before .count .ensures) (c .before .before .before .before .before .loop .inv .1) (c .before .before .before .before .before .loop .inv .3) (c .before .before .before .before .loop-test .taken)
-    (record-test _ (c .before .before .before .before .before .before .before .before .before .count .ensures) (c .before .before .before .before .before .loop .inv .1) (c .before .before .before .record-at .ensures) (c .before .fits2 .ensures) (c .before .before .before .before .loop-test .taken) ∙ not-true _ (c .if1 .taken))
+returns-2 : tie.Need-returns-2 Inv-loop μ-loop
+returns-2 c =
+    record-fails _ (c .before .before .before .before .before .before .before .before .before .before .before .count .ensures) (c .before .before .before .before .before .before .before .loop .inv .1) (c .before .before .before .before .before .before .before .loop .inv .3) (c .before .before .before .before .before .before .loop-test .taken)
+    (record-test _ (c .before .before .before .before .before .before .before .before .before .before .before .count .ensures) (c .before .before .before .before .before .before .before .loop .inv .1) (c .before .before .before .record-at .ensures) (c .before .fits2 .ensures) (c .before .before .before .before .before .before .loop-test .taken) ∙ not-true _ (c .if2 .taken))
 
 next-requires : tie.Need-next-requires Inv-loop μ-loop
-next-requires c κs = room-at (c .before .before .before .before .before .before .before .before .before .before .before .args .f .now) (λ i. omega (arith, c .before .before .before .before .before .before .before .before .before .before .shared-slice-known .given i)) _ (c .before .before .before .before .before .loop .inv .1) (let h = records-few (c .before .before .before .before .before .before .before .before .before .before .before .args .f .now) (c .before .before .before .before .before .before .before .before .before .before .before .good .0 .0) in omega (arith, c .before .before .before .before .before .before .before .before .before .count .ensures))
+next-requires c κs = room-at (c .before .before .before .before .before .before .before .before .before .before .before .before .before .args .f .now) (λ i. omega (arith, c .before .before .before .before .before .before .before .before .before .before .before .before .shared-slice-known .given i)) _ (c .before .before .before .before .before .before .before .loop .inv .1) (let h = records-few (c .before .before .before .before .before .before .before .before .before .before .before .before .before .args .f .now) (c .before .before .before .before .before .before .before .before .before .before .before .before .before .good .0 .0) in omega (arith, c .before .before .before .before .before .before .before .before .before .before .before .count .ensures))
 
 add-r : tie.Need-add-r Inv-loop μ-loop
 add-r c = omega arith
@@ -58,10 +67,10 @@ loop-less c = omega arith
 loop-again : tie.Need-loop-again Inv-loop μ-loop
 loop-again c = (
   omega arith,
-  step-walk _ _ (c .before .before .before .before .before .before .loop .inv .1) (c .before .before .before .before .record-at .ensures) (c .next .ensures),
-  c .before .before .before .before .before .before .loop .inv .2,
-  below-more _ _ (c .before .before .before .before .before .before .loop .inv .3)
-      (record-test _ (c .before .before .before .before .before .before .before .before .before .before .count .ensures) (c .before .before .before .before .before .before .loop .inv .1) (c .before .before .before .before .record-at .ensures) (c .before .before .fits2 .ensures) (c .before .before .before .before .before .loop-test .taken) ∙ not-false _ (c .before .if1 .left)),
+  step-walk _ _ (c .before .before .before .before .before .before .before .before .loop .inv .1) (c .before .before .before .before .record-at .ensures) (c .next .ensures),
+  c .before .before .before .before .before .before .before .before .loop .inv .2,
+  below-more _ _ (c .before .before .before .before .before .before .before .before .loop .inv .3)
+      (record-test _ (c .before .before .before .before .before .before .before .before .before .before .before .before .count .ensures) (c .before .before .before .before .before .before .before .before .loop .inv .1) (c .before .before .before .before .record-at .ensures) (c .before .before .fits2 .ensures) (c .before .before .before .before .before .before .before .loop-test .taken) ∙ not-false _ (c .before .if2 .left)),
 )
 
 end-fits-requires : tie.Need-end-fits-requires Inv-loop μ-loop
@@ -70,11 +79,11 @@ end-fits-requires c κs = search needs
 add-result : tie.Need-add-result Inv-loop μ-loop
 add-result c = let h = records-few (c .before .before .before .before .before .before .before .before .before .args .f .now) (c .before .before .before .before .before .before .before .before .before .good .0 .0) in omega (arith, c .before .before .before .before .before .before .before .count .ensures)
 
-returns-2 : tie.Need-returns-2 Inv-loop μ-loop
-returns-2 c = none-fails _ (c .before .before .before .before .before .before .before .count .ensures) (c .before .before .before .loop .inv .1) (c .before .before .before .loop .inv .3) (omega arith) (sym (c .before .end-fits .ensures) ∙ c .if2 .taken)
-
 returns-3 : tie.Need-returns-3 Inv-loop μ-loop
-returns-3 c = ends-short _ (c .before .before .before .before .before .before .before .count .ensures) (c .before .before .before .loop .inv .1) (c .before .before .before .loop .inv .3) (omega arith) (sym (c .before .end-fits .ensures) ∙ c .if2 .left)
+returns-3 c = none-fails _ (c .before .before .before .before .before .before .before .count .ensures) (c .before .before .before .loop .inv .1) (c .before .before .before .loop .inv .3) (omega arith) (sym (c .before .end-fits .ensures) ∙ c .if3 .taken)
+
+returns-4 : tie.Need-returns-4 Inv-loop μ-loop
+returns-4 c = ends-short _ (c .before .before .before .before .before .before .before .count .ensures) (c .before .before .before .loop .inv .1) (c .before .before .before .loop .inv .3) (omega arith) (sym (c .before .end-fits .ensures) ∙ c .if3 .left)
 
 pub first-fault-spec : {M : Type 1} → statement M
 first-fault-spec =
@@ -85,14 +94,17 @@ first-fault-spec =
     count-requires
     start-requires
     loop-holds
+    in-filler-requires
+    filler-fault-requires
+    returns
     record-at-requires
     fits-requires
-    returns
+    returns-2
     next-requires
     add-r
     loop-less
     loop-again
     end-fits-requires
     add-result
-    returns-2
-    returns-3)
+    returns-3
+    returns-4)

@@ -9,7 +9,7 @@ use borrow.Author.Needs.{needs}
 use mathlib.Core.Path.{_≡_, sym, _∙_}
 use native.Mathlib.Omega.{arith}
 use Prim.Native.Nat.{_≤_, _<_, _-_}
-use Rattle.walk.specs.Tables.{entries, starts-none, step-start, step-same, tables-at, records-few, room-at}
+use Rattle.walk.specs.Tables.{entries, starts-none, step-start, step-same, tables-at, tables-filler, records-few, room-at}
 use Rattle.walk.proofs.tables.tables_of.Statement.{statement}
 use Rattle.walk.proofs.tables.tables_of.Tie as tie
 
@@ -28,17 +28,23 @@ start-requires c κs = search needs
 loop-holds : tie.Need-loop-holds Inv-loop μ-loop
 loop-holds c = (omega arith, c .start .ensures ∙ sym (scan-start _), starts-none _)
 
+in-filler-requires : tie.Need-in-filler-requires Inv-loop μ-loop
+in-filler-requires c κs = search needs
+
+returns : tie.Need-returns Inv-loop μ-loop
+returns c = tables-filler _ (c .before .before .before .before .before .count .ensures) (omega arith) (c .before .before .before .loop .inv .1) (c .before .before .before .loop .inv .2) (sym (c .before .in-filler .ensures) ∙ c .if1 .taken)
+
 record-at-requires : tie.Need-record-at-requires Inv-loop μ-loop
 record-at-requires c κs = search needs
 
 next-requires : tie.Need-next-requires Inv-loop μ-loop
-next-requires c κs = room-at (c .before .before .before .before .before .before .args .f .now) (λ i. omega (arith, c .before .before .before .before .before .shared-slice-known .given i)) _ (c .before .before .loop .inv .1) (let h = records-few (c .before .before .before .before .before .before .args .f .now) (c .before .before .before .before .before .before .good .0 .0) in omega (arith, c .before .before .before .before .count .ensures))
+next-requires c κs = room-at (c .before .before .before .before .before .before .before .before .args .f .now) (λ i. omega (arith, c .before .before .before .before .before .before .before .shared-slice-known .given i)) _ (c .before .before .before .before .loop .inv .1) (let h = records-few (c .before .before .before .before .before .before .before .before .args .f .now) (c .before .before .before .before .before .before .before .before .good .0 .0) in omega (arith, c .before .before .before .before .before .before .count .ensures))
 
 mul-starts : tie.Need-mul-starts Inv-loop μ-loop
-mul-starts c = let h : c .before .before .before .before .before .loop .w .functions < callees = ltb-true _ _ (both (ltb (c .before .before .before .before .before .loop .w .functions) callees) _ (c .if1 .taken) .0) in omega arith
+mul-starts c = let h : c .before .before .before .before .before .before .before .loop .w .functions < callees = ltb-true _ _ (both (ltb (c .before .before .before .before .before .before .before .loop .w .functions) callees) _ (c .if2 .taken) .0) in omega arith
 
 array-write-starts : tie.Need-array-write-starts Inv-loop μ-loop
-array-write-starts c = ltb-true _ _ (both (ltb (c .before .before .before .before .before .loop .w .functions) callees) _ (c .if1 .taken) .0)
+array-write-starts c = ltb-true _ _ (both (ltb (c .before .before .before .before .before .before .before .loop .w .functions) callees) _ (c .if2 .taken) .0)
 
 add-r : tie.Need-add-r Inv-loop μ-loop
 add-r c = omega arith
@@ -48,16 +54,16 @@ loop-less c = omega arith
 
 loop-again : tie.Need-loop-again Inv-loop μ-loop
 loop-again c =
-    let hw = c .before .before .before .before .before .loop .inv .1 in
-    let hh = c .before .before .before .before .before .loop .inv .2 in
+    let hw = c .before .before .before .before .before .before .before .loop .inv .1 in
+    let hh = c .before .before .before .before .before .before .before .loop .inv .2 in
     let hv = step-walk _ _ hw (c .before .before .before .record-at .ensures) (c .before .before .next .ensures) in (
       omega arith,
       hv,
-      ⊎-elim (λ s. s .1 ∙ step-start _ (λ i. omega (arith, c .before .before .before .before .before .before .before .before .shared-slice-known .given i)) _ hw hv hh (s .0 .taken)) (λ s. s .1 ∙ step-same _ (λ i. omega (arith, c .before .before .before .before .before .before .before .before .shared-slice-known .given i)) _ hw hv hh (s .0 .left)) (c .if1 .came),
+      ⊎-elim (λ s. s .1 ∙ step-start _ (λ i. omega (arith, c .before .before .before .before .before .before .before .before .before .before .shared-slice-known .given i)) _ hw hv hh (s .0 .taken)) (λ s. s .1 ∙ step-same _ (λ i. omega (arith, c .before .before .before .before .before .before .before .before .before .before .shared-slice-known .given i)) _ hw hv hh (s .0 .left)) (c .if2 .came),
     )
 
-returns : tie.Need-returns Inv-loop μ-loop
-returns c = tables-at _ (c .before .before .before .count .ensures) (omega arith) (c .before .loop .inv .1) (c .before .loop .inv .2)
+returns-2 : tie.Need-returns-2 Inv-loop μ-loop
+returns-2 c = tables-at _ (c .before .before .before .count .ensures) (omega arith) (c .before .loop .inv .1) (c .before .loop .inv .2)
 
 pub tables-of-spec : {M : Type 1} → statement M
 tables-of-spec =
@@ -68,6 +74,8 @@ tables-of-spec =
     count-requires
     start-requires
     loop-holds
+    in-filler-requires
+    returns
     record-at-requires
     next-requires
     mul-starts
@@ -75,4 +83,4 @@ tables-of-spec =
     add-r
     loop-less
     loop-again
-    returns)
+    returns-2)
