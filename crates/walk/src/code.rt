@@ -11,9 +11,13 @@ pub fn registers_at(f: &[u8], h: usize) -> usize
     requires { ⌜ h < 2 ^ 32 ⌝ }
     ensures { λ r. ⌜ r ≡ registersAt (now (f .entry)) h ⌝ }
 {
-    let x = crate::file::record_at(f, h);
-    let n = crate::file::regions_of(x);
-    if 0 < n { h + 2 } else { h + 1 }
+    let a = crate::file::byte_at(f, h, 1);
+    let b = crate::file::byte_at(f, h, 2);
+    if 0 < words::wide(a) + words::wide(b) {
+        h + 2
+    } else {
+        h + 1
+    }
 }
 
 // Its first instruction.
@@ -31,6 +35,6 @@ pub fn after(f: &[u8], r: usize) -> usize
     requires { ⌜ r < 2 ^ 32 ⌝ }
     ensures { λ n. ⌜ n ≡ after (now (f .entry)) r ⌝ }
 {
-    let x = crate::file::record_at(f, r);
-    if x.kind == CALL { r + 2 } else { r + 1 }
+    let kind = crate::file::byte_at(f, r, 0);
+    if kind == CALL { r + 2 } else { r + 1 }
 }

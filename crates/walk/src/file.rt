@@ -1,6 +1,8 @@
 // The records of a file, and the numbers in a record. Each function is the definition of the same name in rules' specs/File.antt.
 ghost use mathlib.Core.Path.{_≡_};
 ghost use Prim.Native.Nat.{_<_};
+ghost use Rattle.rules.specs.Limits.{recordBytes};
+ghost use Rattle.walk.specs.Record.{byteOf};
 ghost use Rattle.rules.specs.File.{records, recordOf, regionsOf, returnOf, parametersOf, instructionsOf, entryOf};
 use crate::limits::BLOCK_BYTES;
 use crate::limits::BLOCK_RECORDS;
@@ -57,6 +59,22 @@ pub fn record_at(f: &[u8], r: usize) -> Record
         }
     } else {
         last_record(f, r)
+    }
+}
+
+// Byte j of record r: 0 the kind, 1 to 7 the entries.
+pub fn byte_at(f: &[u8], r: usize, j: usize) -> u8
+    requires { ⌜ j < recordBytes ⌝ }
+    ensures { λ x. ⌜ x ≡ byteOf (recordOf (now (f .entry)) r) j ⌝ }
+{
+    let block = r / BLOCK_RECORDS;
+    if block <= f.len() / BLOCK_BYTES {
+        words::byte(
+            f,
+            BLOCK_BYTES * block + RECORDS_IN + RECORD_BYTES * (r % BLOCK_RECORDS) + j,
+        )
+    } else {
+        0
     }
 }
 

@@ -3,5 +3,6 @@
 pub mod code;
 pub mod file;
 pub mod limits;
+mod run;
 pub mod step;
 pub mod tables;

@@ -36,7 +36,8 @@ pub fn is_instruction(kind: u8) -> bool
     (FIRST_INSTRUCTION <= kind) & (kind <= LAST_INSTRUCTION)
 }
 
-fn to(w: Walk, p: Phase, n: usize) -> Walk
+// The same counts, waiting for p, of which n are to come.
+pub fn to(w: Walk, p: Phase, n: usize) -> Walk
     ensures { λ v. ⌜ v ≡ to w p n ⌝ }
 {
     Walk {

@@ -38,6 +38,9 @@ pub fn tables_of(f: &[u8]) -> Tables
         if crate::step::in_filler(p) {
             return Tables { walk: w, starts };
         }
+        let e = crate::run::run_end(f, n, w, r);
+        w = crate::step::to(w, p, w.left - (e - r));
+        r = e;
         let x = crate::file::record_at(f, r);
         let v = crate::step::next(w, x, r);
         let g = w.functions;

@@ -1,4 +1,4 @@
--- `walk::tables::tables_of` meets its contract: the loop holds the walk and the starts before record r. Assumes nothing.
+-- `walk::tables::tables_of` meets its contract: the loop holds the walk and the starts before record r, and passes instructions in a row at once. Assumes nothing.
 use mathlib.Core.Logic.{⊎-elim}
 use Rattle.rules.specs.Walk.{scan}
 use lib.Dec.{ltb}
@@ -6,7 +6,7 @@ use borrow.Author.Tests.{ltb-true}
 use Rattle.walk.specs.Scan.{callees, scan-start, step-walk}
 use Rattle.words.specs.Choose.{both}
 use borrow.Author.Needs.{needs}
-use mathlib.Core.Path.{_≡_, sym, _∙_}
+use mathlib.Core.Path.{_≡_, sym, ap, _∙_}
 use native.Mathlib.Omega.{arith}
 use Prim.Native.Nat.{_≤_, _<_, _-_}
 use Rattle.walk.specs.Tables.{entries, starts-none, step-start, step-same, tables-at, tables-filler, records-few, room-at}
@@ -34,32 +34,53 @@ in-filler-requires c κs = search needs
 returns : tie.Need-returns Inv-loop μ-loop
 returns c = tables-filler _ (c .before .before .before .before .before .count .ensures) (omega arith) (c .before .before .before .loop .inv .1) (c .before .before .before .loop .inv .2) (sym (c .before .in-filler .ensures) ∙ c .if1 .taken)
 
+run-end-requires : tie.Need-run-end-requires Inv-loop μ-loop
+run-end-requires c κs = (c .before .before .before .loop .inv .1, c .before .before .loop-test .taken)
+
+sub-to : tie.Need-sub-to Inv-loop μ-loop
+sub-to c = omega (arith, c .run-end .ensures .from)
+
+sub-to-2 : tie.Need-sub-to-2 Inv-loop μ-loop
+sub-to-2 c = omega (arith, c .before .run-end .ensures .many)
+
+to-requires : tie.Need-to-requires Inv-loop μ-loop
+to-requires c κs = search needs
+
 record-at-requires : tie.Need-record-at-requires Inv-loop μ-loop
 record-at-requires c κs = search needs
 
 next-requires : tie.Need-next-requires Inv-loop μ-loop
-next-requires c κs = room-at (c .before .before .before .before .before .before .before .before .args .f .now) (λ i. omega (arith, c .before .before .before .before .before .before .before .shared-slice-known .given i)) _ (c .before .before .before .before .loop .inv .1) (let h = records-few (c .before .before .before .before .before .before .before .before .args .f .now) (c .before .before .before .before .before .before .before .before .good .0 .0) in omega (arith, c .before .before .before .before .before .before .count .ensures))
+next-requires c κs =
+    room-at (c .before .before .before .before .before .before .before .before .before .before .before .args .f .now) (λ i. omega (arith, c .before .before .before .before .before .before .before .before .before .before .shared-slice-known .given i)) _ (c .before .to .ensures ∙ c .before .before .before .run-end .ensures .walk)
+    (let h = records-few (c .before .before .before .before .before .before .before .before .before .before .before .args .f .now) (c .before .before .before .before .before .before .before .before .before .before .before .good .0 .0) in omega (arith, c .before .before .before .run-end .ensures .below, c .before .before .before .before .before .before .before .before .before .count .ensures))
 
 mul-starts : tie.Need-mul-starts Inv-loop μ-loop
-mul-starts c = let h : c .before .before .before .before .before .before .before .loop .w .functions < callees = ltb-true _ _ (both (ltb (c .before .before .before .before .before .before .before .loop .w .functions) callees) _ (c .if2 .taken) .0) in omega arith
+mul-starts c = let h : c .before .before .before .before .to .result .functions < callees = ltb-true _ _ (both (ltb (c .before .before .before .before .to .result .functions) callees) _ (c .if2 .taken) .0) in omega arith
 
 array-write-starts : tie.Need-array-write-starts Inv-loop μ-loop
-array-write-starts c = ltb-true _ _ (both (ltb (c .before .before .before .before .before .before .before .loop .w .functions) callees) _ (c .if2 .taken) .0)
+array-write-starts c = ltb-true _ _ (both (ltb (c .before .before .before .before .to .result .functions) callees) _ (c .if2 .taken) .0)
 
 add-r : tie.Need-add-r Inv-loop μ-loop
-add-r c = omega arith
+add-r c =
+    let h : c .before .before .before .before .before .before .run-end .result < c .before .before .before .before .before .before .before .before .before .before .before .before .count .result = c .before .before .before .before .before .before .run-end .ensures .below in
+    let few = records-few (c .before .before .before .before .before .before .before .before .before .before .before .before .before .before .args .f .now) (c .before .before .before .before .before .before .before .before .before .before .before .before .before .before .good .0 .0) in
+    omega (arith, c .before .before .before .before .before .before .before .before .before .before .before .before .count .ensures)
 
 loop-less : tie.Need-loop-less Inv-loop μ-loop
-loop-less c = omega arith
+loop-less c =
+    let h : c .before .before .before .before .before .before .run-end .result < c .before .before .before .before .before .before .before .before .before .before .before .before .count .result = c .before .before .before .before .before .before .run-end .ensures .below in
+    let l : c .before .before .before .before .before .before .before .before .before .before .loop .r ≤ c .before .before .before .before .before .before .run-end .result = c .before .before .before .before .before .before .run-end .ensures .from in
+    omega arith
 
 loop-again : tie.Need-loop-again Inv-loop μ-loop
 loop-again c =
-    let hw = c .before .before .before .before .before .before .before .loop .inv .1 in
-    let hh = c .before .before .before .before .before .before .before .loop .inv .2 in
+    let h : c .before .before .before .before .before .before .run-end .result < c .before .before .before .before .before .before .before .before .before .before .before .before .count .result = c .before .before .before .before .before .before .run-end .ensures .below in
+    let hw = c .before .before .before .before .to .ensures ∙ c .before .before .before .before .before .before .run-end .ensures .walk in
+    let hh = c .before .before .before .before .before .before .before .before .before .before .loop .inv .2 ∙ ap entries (sym (c .before .before .before .before .before .before .run-end .ensures .starts)) in
     let hv = step-walk _ _ hw (c .before .before .before .record-at .ensures) (c .before .before .next .ensures) in (
       omega arith,
       hv,
-      ⊎-elim (λ s. s .1 ∙ step-start _ (λ i. omega (arith, c .before .before .before .before .before .before .before .before .before .before .shared-slice-known .given i)) _ hw hv hh (s .0 .taken)) (λ s. s .1 ∙ step-same _ (λ i. omega (arith, c .before .before .before .before .before .before .before .before .before .before .shared-slice-known .given i)) _ hw hv hh (s .0 .left)) (c .if2 .came),
+      ⊎-elim (λ s. s .1 ∙ step-start _ (λ i. omega (arith, c .before .before .before .before .before .before .before .before .before .before .before .before .before .shared-slice-known .given i)) _ hw hv hh (s .0 .taken)) (λ s. s .1 ∙ step-same _ (λ i. omega (arith, c .before .before .before .before .before .before .before .before .before .before .before .before .before .shared-slice-known .given i)) _ hw hv hh (s .0 .left)) (c .if2 .came),
     )
 
 returns-2 : tie.Need-returns-2 Inv-loop μ-loop
@@ -76,6 +97,10 @@ tables-of-spec =
     loop-holds
     in-filler-requires
     returns
+    run-end-requires
+    sub-to
+    sub-to-2
+    to-requires
     record-at-requires
     next-requires
     mul-starts
