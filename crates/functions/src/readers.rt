@@ -10,8 +10,8 @@ pub fn register_term(f: &[u8], h: usize, i: usize) -> usize
     ensures { λ r. ⌜ r ≡ registerTerm (now (f .entry)) h i ⌝ }
 {
     let from = walk::code::registers_at(f, h);
-    let x = walk::file::record_at(f, from + i / MOST_ENTRIES);
-    terms::entry_of(x, i % MOST_ENTRIES)
+    let x = walk::file::byte_at(f, from + i / MOST_ENTRIES, i % MOST_ENTRIES + 1);
+    x as usize
 }
 
 // The term of region i.

@@ -3,7 +3,9 @@ use mathlib.Core.Path.{_≡_, refl, sym, ap, ap₂, _∙_, subst}
 use mathlib.Core.Bool.{Bool, true, false, _&&_, _||_}
 use mathlib.Core.Logic.{_⊎_, inl, inr, _↔_}
 use Prim.Native.Nat.{ℕ, _^_, _<_, _≤_}
+use native.Mathlib.Omega.{arith}
 use lib.Dec.{ltb, leb, eqb}
+use borrow.Author.Tests.{lt-ltb, le-ltb, ne-eqb}
 use Rattle.words.specs.Choose.{lt-reads, le-reads, eq-reads}
 use Rattle.words.specs.Decide.{does}
 use Rattle.rules.specs.Types.{variable, Variable, Tree, int, ptr, arr, form, numberOf, inner, regionOf, decTree}
@@ -13,6 +15,29 @@ use Rattle.rules.specs.Operands.{signedQuotient, lastOperation}
 use Rattle.rules.specs.Typing.{_⊢_∶_, Typed, t-constant, t-copy, t-operate, t-quotient, t-compare, t-zeroExtend, t-signExtend, t-address, t-checkInteger, t-checkPointer, t-field, t-index, t-load, t-store, t-new, t-free, t-input, t-output, t-jump, t-branch, t-return}
 use Rattle.rules.specs.Decision.{decTyped}
 use Rattle.judgment.specs.Registers.{both-reads, one-reads, does-reads, read-as, decided, int-of, ptr-of, arr-of, isRegister, isInteger, isPointer, hasWidth, sameTypes, pointsTo, together, register-reads, integer-reads, pointer-reads, width-reads, same-reads, points-reads, together-reads}
+
+-- operation o on b gives the type of a
+unfoldable pub operated : Function → ℕ → ℕ → ℕ → Bool
+operated F o a b =
+    (ltb o signedQuotient && sameTypes F a b)
+    || ((eqb o signedQuotient && (hasWidth F 4 b && hasWidth F 4 a)) || (ltb signedQuotient o && (leb o lastOperation && hasWidth F 1 a)))
+
+or-none : (s : Bool) → s ≡ s || false
+or-none true = refl
+or-none false = refl
+
+module _ (F : Function) (o a b : ℕ) where
+  pub operated-plain : o < signedQuotient → sameTypes F a b ≡ operated F o a b
+  unfolding operated
+  operated-plain h = rw (lt-ltb o signedQuotient h, ne-eqb o signedQuotient (λ e. omega arith), le-ltb signedQuotient o (omega arith)) (or-none (sameTypes F a b))
+
+  pub operated-quotient : o ≡ signedQuotient → hasWidth F 4 b && hasWidth F 4 a ≡ operated F o a b
+  unfolding operated
+  operated-quotient e = rw e (or-none (hasWidth F 4 b && hasWidth F 4 a))
+
+  pub operated-compare : signedQuotient < o → leb o lastOperation && hasWidth F 1 a ≡ operated F o a b
+  unfolding operated
+  operated-compare h = rw (le-ltb o signedQuotient (omega arith), ne-eqb o signedQuotient (λ e. omega arith), lt-ltb signedQuotient o h)
 
 module _ (m : Module) (F : Function) where
   -- "16 a becomes d, which fits integer a"
@@ -32,7 +57,8 @@ module _ (m : Module) (F : Function) where
 
   -- "18 operation d on b and c, equal integers, into a of that type .. 10 signed i32 quotient .. 11 equal, 12 less unsigned, 13 less
   -- signed, into i8"
-  pub operate-test : (o a b c : ℕ) → (isInteger F b && sameTypes F c b) && ((ltb o signedQuotient && sameTypes F a b) || ((eqb o signedQuotient && (hasWidth F 4 b && hasWidth F 4 a)) || (ltb signedQuotient o && (leb o lastOperation && hasWidth F 1 a)))) ≡ does (decTyped m F (operate o a b c))
+  pub operate-test : (o a b c : ℕ) → (isInteger F b && sameTypes F c b) && operated F o a b ≡ does (decTyped m F (operate o a b c))
+  unfolding operated
   operate-test o a b c = decided (decTyped m F (operate o a b c))
       (both-reads (both-reads (integer-reads F b) (same-reads F c b))
       (one-reads (both-reads (lt-reads o signedQuotient) (same-reads F a b))

@@ -8,6 +8,7 @@ ghost use Rattle.rules.specs.Decision.{decTyped};
 ghost use Rattle.rules.specs.Decode.{moduleOf, arithmeticOf};
 ghost use Rattle.terms.specs.Extents.{Terms};
 ghost use Rattle.functions.specs.Functions.{placeLimit, functionAt};
+ghost use Rattle.judgment.specs.Rules.{operated};
 use crate::registers::has_width;
 use crate::registers::is_integer;
 use crate::registers::is_pointer;
@@ -44,15 +45,26 @@ pub fn copy(f: &[u8], n: usize, h: usize, a: usize, b: usize) -> bool
     same_types(f, n, h, a, b)
 }
 
+// Operation o on b gives the type of a.
+fn operated(f: &[u8], n: usize, h: usize, o: u32, a: usize, b: usize) -> bool
+    requires { ⌜ Terms (now f) n ⌝ ∗ ⌜ h < placeLimit ⌝ }
+    ensures { λ s. ⌜ s ≡ operated (functionAt (now (f .entry)) h) o a b ⌝ }
+{
+    if o < 10 {
+        same_types(f, n, h, a, b)
+    } else if o == 10 {
+        has_width(f, n, h, 4, b) & has_width(f, n, h, 4, a)
+    } else {
+        (o <= 13) & has_width(f, n, h, 1, a)
+    }
+}
+
 // 18: operation o on b and c.
 pub fn operate(f: &[u8], n: usize, h: usize, o: u32, a: usize, b: usize, c: usize) -> bool
     requires { ⌜ Terms (now f) n ⌝ ∗ ⌜ h < placeLimit ⌝ }
     ensures { λ s. ⌜ s ≡ does (decTyped (moduleOf (now (f .entry))) (functionAt (now (f .entry)) h) (operate o a b c)) ⌝ }
 {
-    let plain = (o < 10) & same_types(f, n, h, a, b);
-    let quotient = (o == 10) & (has_width(f, n, h, 4, b) & has_width(f, n, h, 4, a));
-    let compare = (10 < o) & ((o <= 13) & has_width(f, n, h, 1, a));
-    (is_integer(f, n, h, b) & same_types(f, n, h, c, b)) & (plain | (quotient | compare))
+    (is_integer(f, n, h, b) & same_types(f, n, h, c, b)) & operated(f, n, h, o, a, b)
 }
 
 // 19: integer b to integer a.

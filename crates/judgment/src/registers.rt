@@ -11,8 +11,8 @@ use functions::readers::register_term;
 pub fn is_register(f: &[u8], h: usize, a: usize) -> bool
     ensures { λ b. ⌜ b ≡ isRegister (functionAt (now (f .entry)) h) a ⌝ }
 {
-    let x = walk::file::record_at(f, h);
-    a < x.c as usize
+    let c = walk::file::byte_at(f, h, 3);
+    a < c as usize
 }
 
 // The form of its type; its width, where it is an integer; its region, where it is a pointer.

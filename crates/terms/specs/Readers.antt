@@ -1,6 +1,6 @@
 -- What a term is, by its head: the small readers that rules 5, 6 and 7 use. Assumes nothing.
 use mathlib.Core.Path.{_≡_, refl, sym, ap, _∙_}
-use mathlib.Core.Bool.{Bool, true, false, _&&_}
+use mathlib.Core.Bool.{Bool, true, false, cond, _&&_}
 use mathlib.Core.List.{List, [], _∷_}
 use Prim.Native.Nat.{ℕ, zero, suc, _+_, _-_, _<_, _≤_}
 use native.Mathlib.Decide.{ℕ-discrete}
@@ -8,16 +8,18 @@ use native.Mathlib.Omega.{arith}
 use lib.Dec.{eqb, leb}
 use lib.ListN.{length}
 use borrow.Author.Tests.{le-leb, leb-true}
-use Rattle.words.specs.Bytes.{Bytes}
+use Rattle.words.specs.Bytes.{Bytes, AllBytes}
 use Rattle.words.specs.ByteLaws.{length-listOf}
 use Rattle.words.specs.Choose.{bool-same}
 use Rattle.words.specs.Decide.{does, does-true, mapDec}
 use Rattle.rules.specs.Types.{variable, Region, Variable, region, Tree, int, ptr, arr, struct, form, numberOf, inner, regionOf, args, decTree, decUses, Primitive, decPrimitive}
+use Rattle.rules.specs.File.{recordOf, kindInteger, kindPointer, kindArray}
 use Rattle.rules.specs.Decode.{noTree, moduleOf}
+use Rattle.rules.specs.declared.Record.{Record}
 use Rattle.terms.specs.declared.Head.{Head}
 use Rattle.terms.specs.declared.Head.the-variants.{Int, Ptr, Arr, Struct}
-use Rattle.terms.specs.Heads.{digit, argsOf, placeOf, treeAt, headOf, grow, formNo, mainNo, innerNo, regionNo, argsNo}
-use Rattle.terms.specs.HeadLaws.{tree-step, place-in, place-out, place-le, Fair}
+use Rattle.terms.specs.Heads.{digit, argsOf, placeOf, treeAt, headFrom, headOf, grow, formNo, mainNo, innerNo, regionNo, argsNo}
+use Rattle.terms.specs.HeadLaws.{tree-step, place-in, place-out, place-le, Fair, fair}
 use Rattle.terms.specs.Extents.{Terms}
 use Rattle.terms.specs.ExtentLaws.{module-term}
 use Rattle.terms.specs.Compare.{does-map, does-nat, does-yes, inner-le}
@@ -152,3 +154,55 @@ pub uses-reads : (n : ℕ) (T : Tree variable) → leb (bound T) n ≡ does (dec
 uses-reads n T = bool-same (leb (bound T) n) (does (decUses n T))
     (λ h. does-yes (decUses n T) (bound-reads n T .0 (leb-true (bound T) n h)))
     (λ h. le-leb (bound T) n (bound-reads n T .1 (does-true (decUses n T) h)))
+
+-- ---- a term's form by the kind of its record
+
+abbrev pub formBy : ℕ → ℕ
+formBy k = cond (eqb k kindInteger) 1 (cond (eqb k kindPointer) 2 (cond (eqb k kindArray) 3 4))
+
+module _ (t : ℕ) (x : Record) where
+  form-from : formNo (headFrom t x) ≡ formBy (x .kind)
+  unfolding headFrom
+  form-from = by (eqb (x .kind) kindInteger) (eqb (x .kind) kindPointer) (eqb (x .kind) kindArray)
+    where
+      by : (p q r : Bool) → formNo (cond p (Int (x .a)) (cond q (Ptr (placeOf t (x .a)) (x .b)) (cond r (Arr (x .d) (placeOf t (x .a))) (Struct (x .a) (x .b) (x .d))))) ≡ cond p 1 (cond q 2 (cond r 3 4))
+      by true q r = refl
+      by false true r = refl
+      by false false true = refl
+      by false false false = refl
+
+  integer-from : (w : ℕ) → eqb (formNo (headFrom t x)) 1 && eqb (mainNo (headFrom t x)) w ≡ eqb (x .kind) kindInteger && eqb (x .a) w
+  unfolding headFrom
+  integer-from w = by (eqb (x .kind) kindInteger) (eqb (x .kind) kindPointer) (eqb (x .kind) kindArray)
+    where
+      by : (p q r : Bool) → let h = cond p (Int (x .a)) (cond q (Ptr (placeOf t (x .a)) (x .b)) (cond r (Arr (x .d) (placeOf t (x .a))) (Struct (x .a) (x .b) (x .d)))) in eqb (formNo h) 1 && eqb (mainNo h) w ≡ p && eqb (x .a) w
+      by true q r = refl
+      by false true r = refl
+      by false false true = refl
+      by false false false = refl
+
+module _ (f : Bytes) (all : AllBytes f) (n : ℕ) (e : Terms f n) (t : ℕ) where
+  reads-at : Reads f n (moduleOf f .term t) (headOf f (placeOf n t))
+  reads-at = head-reads f n e t (placeOf n t) refl (headOf f (placeOf n t)) refl (fair f all (placeOf n t))
+
+  module _ (h : t < n) where
+    head-in : headOf f (placeOf n t) ≡ headFrom t (recordOf f t)
+    unfolding headOf
+    head-in = rw (place-in n t h)
+
+    pub form-in : formBy (recordOf f t .kind) ≡ form (moduleOf f .term t)
+    form-in = sym (form-from t (recordOf f t)) ∙ rw (← head-in) (form-reads f n (moduleOf f .term t) (headOf f (placeOf n t)) reads-at)
+
+    pub integer-in : (w : ℕ) → eqb (recordOf f t .kind) kindInteger && eqb (recordOf f t .a) w ≡ does (decTree (moduleOf f .term t) (int w))
+    integer-in w = sym (integer-from t (recordOf f t) w) ∙ rw (← head-in) (integer-reads f n (moduleOf f .term t) (headOf f (placeOf n t)) reads-at w)
+
+  module _ (h : n ≤ t) where
+    head-out : headOf f (placeOf n t) ≡ Int 1
+    unfolding headOf
+    head-out = rw (place-out n t h)
+
+    pub form-out : 1 ≡ form (moduleOf f .term t)
+    form-out = rw head-out at (form-reads f n (moduleOf f .term t) (headOf f (placeOf n t)) reads-at)
+
+    pub integer-out : (w : ℕ) → eqb 1 w ≡ does (decTree (moduleOf f .term t) (int w))
+    integer-out w = rw head-out at (integer-reads f n (moduleOf f .term t) (headOf f (placeOf n t)) reads-at w)

@@ -17,7 +17,7 @@ ghost use Rattle.terms.specs.HeadLaws.{Fair, Narrow};
 ghost use Rattle.terms.specs.Extents.{Terms, Counted, cap, extentOf, over, plus, times, Small, termExtent, structExtent};
 ghost use Rattle.terms.specs.Compare.{byteUnder, under, argsSame, headsSame, placesSame, Identity};
 ghost use Rattle.terms.specs.Bounds.{bound, boundOf, headBound};
-ghost use Rattle.terms.specs.Readers.{Reads, Inner};
+ghost use Rattle.terms.specs.Readers.{Reads, Inner, formBy};
 use rules::Record;
 use words::word_at;
 
@@ -404,6 +404,10 @@ pub fn equal(f: &[u8], n: usize, a: usize, b: usize) -> bool
     requires { ⌜ Terms (now f) n ⌝ }
     ensures { λ r. do let m = moduleOf (now (f .entry)) in ⌜ r ≡ does (decTree (m .term a) (m .term b)) ⌝ }
 {
+    // most terms that are compared are one and the same
+    if a == b {
+        return true;
+    }
     let id = identity();
     same(f, n, a, &id, b, &id)
 }
@@ -484,12 +488,31 @@ pub fn head_term(f: &[u8], n: usize, t: usize) -> Head
     head_of(f, place_of(n, t))
 }
 
-// Its form: 1 integer, 2 pointer, 3 array, 4 struct.
+// The form of a term whose record has this kind: 1 integer, 2 pointer, 3 array, 4 struct.
+fn form_by(kind: u8) -> usize
+    ensures { λ r. ⌜ r ≡ formBy kind ⌝ }
+{
+    if kind == 1 {
+        1
+    } else if kind == 2 {
+        2
+    } else if kind == 3 {
+        3
+    } else {
+        4
+    }
+}
+
+// The form of term t.
 pub fn form(f: &[u8], n: usize, t: usize) -> usize
     requires { ⌜ Terms (now f) n ⌝ }
     ensures { λ r. ⌜ r ≡ form (moduleOf (now (f .entry)) .term t) ⌝ }
 {
-    form_no(head_term(f, n, t))
+    if t < n {
+        form_by(walk::file::byte_at(f, t, 0))
+    } else {
+        1
+    }
 }
 
 // Its width, the region of a pointer, the count of an array, the number of a struct.
@@ -518,8 +541,13 @@ pub fn is_integer(f: &[u8], n: usize, t: usize, width: usize) -> bool
     requires { ⌜ Terms (now f) n ⌝ }
     ensures { λ r. ⌜ r ≡ does (decTree (moduleOf (now (f .entry)) .term t) (int width)) ⌝ }
 {
-    let x = head_term(f, n, t);
-    (form_no(x) == 1) & (main_no(x) == width)
+    if t < n {
+        let kind = walk::file::byte_at(f, t, 0);
+        let a = walk::file::byte_at(f, t, 1);
+        (kind == 1) & (wide(a) == width)
+    } else {
+        1 == width
+    }
 }
 
 // The term inside a pointer or an array, by number: n, which names nothing, where what is inside is not there.
