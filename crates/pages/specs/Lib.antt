@@ -4,3 +4,4 @@ pub mod Hints
 pub mod Places
 pub mod Meaning
 pub mod Applied
+pub mod Known

@@ -4,13 +4,14 @@ ghost use mathlib.Core.Path.{_≡_};
 ghost use mathlib.Core.List.{[], _∷_};
 ghost use Prim.Native.Nat.{suc, _<_, _≤_};
 ghost use lib.ListN.{length};
-ghost use Rattle.rules.specs.Limits.{stateBytes, pages, pageBytes, liveRegions, markBytes};
+ghost use Rattle.rules.specs.Limits.{stateBytes, pages, pageBytes, firstPage, pastPage, liveRegions, markBytes};
 ghost use Rattle.rules.specs.State.{view, pageOwner, pageMark, written, putOwner, putMark, clearPage};
 ghost use Rattle.rules.specs.Heap.{placesInPage};
 ghost use Rattle.rules.specs.Step.{unownedPage};
 ghost use Rattle.state.specs.Marks.{lowestZero};
 ghost use Rattle.pages.specs.Search.{lowestPlace, placeFor, Found};
-ghost use Rattle.pages.specs.Places.{openByte};
+ghost use Rattle.pages.specs.Places.{openByte, FullBelow};
+ghost use Rattle.pages.specs.Known.{UsedBelow, Used, forgot, forgotUnowned, forgotAt};
 ghost use Rattle.pages.specs.Meaning.{chosen, Within};
 use state::LiveRegion;
 use state::Machine;
@@ -57,13 +58,13 @@ fn lowest_zero(b: u8) -> u32
     i
 }
 
-// The first byte of page p's marks that has an unused place, or 32.
-fn open_byte(s: &[u8], p: u32) -> usize
-    requires { ⌜ (length (now s) ≡ stateBytes) × (p < pages) ⌝ }
+// The first byte of page p's marks that has an unused place, or 32; the bytes below from have none.
+fn open_byte(s: &[u8], p: u32, from: usize) -> usize
+    requires { ⌜ (length (now s) ≡ stateBytes) × (p < pages) × (from ≤ markBytes) × FullBelow (now s) p from ⌝ }
     ensures { λ i. ⌜ (i ≡ openByte (now (s .entry)) p) × (i ≤ markBytes) ⌝ }
 {
     let at = marks_place(p);
-    let mut i: usize = 0;
+    let mut i = from;
     while i < Machine::MARK_BYTES {
         if s[at + i] != 255 {
             return i;
@@ -73,12 +74,15 @@ fn open_byte(s: &[u8], p: u32) -> usize
     i
 }
 
-// The lowest unused place of page p, or n, the number of its places. (A byte of 255 is eight used places.)
-pub fn lowest_place(s: &[u8], p: u32, n: u32) -> u32
-    requires { ⌜ (length (now s) ≡ stateBytes) × (p < pages) × (n ≤ pageBytes) ⌝ }
+// The lowest unused place of page p, or n, the number of its places; the places below from are used. (A byte of 255 is eight used places.)
+fn lowest_place(s: &[u8], p: u32, from: u32, n: u32) -> u32
+    requires { ⌜ (length (now s) ≡ stateBytes) × (p < pages) × (n ≤ pageBytes) × UsedBelow (now s) p from ⌝ }
     ensures { λ j. ⌜ j ≡ lowestPlace (pageOwner (now (s .entry))) (pageMark (now (s .entry))) n p ⌝ }
 {
-    let i = open_byte(s, p);
+    if n <= from {
+        return n;
+    }
+    let i = open_byte(s, p, (from / 8) as usize);
     if i < Machine::MARK_BYTES {
         let at = marks_place(p) + i;
         let j = 8 * (i as u32) + lowest_zero(s[at]);
@@ -96,7 +100,7 @@ fn place_for(s: &[u8], p: u32, r: LiveRegion, n: u32) -> u32
     ensures { λ j. ⌜ j ≡ placeFor (pageOwner (now (s .entry))) (pageMark (now (s .entry))) (r .0) n p ⌝ }
 {
     if wide(owner(s, p)) == wide(r.0) + 1 {
-        lowest_place(s, p, n)
+        lowest_place(s, p, 0, n)
     } else {
         n
     }
@@ -150,6 +154,94 @@ pub fn allocate(s: &[u8], low: u32, free: u32, past: u32, r: LiveRegion, n: u32)
         Chosen::Page(q)
     } else {
         Chosen::Nothing
+    }
+}
+
+// ---- with a table of the places known to be used, by page
+
+const TABLE: usize = 64;
+
+// The lowest unused place of page p where it is region r's; else n. The table gets what was found.
+fn place_known(s: &[u8], known: &mut [u32; TABLE], p: u32, r: LiveRegion, n: u32) -> u32
+    requires { ⌜ (length (now s) ≡ stateBytes) × (p < pages) × (n ≤ pageBytes) × Used (now known) (now s) ⌝ }
+    ensures { λ j. ⌜ (j ≡ placeFor (pageOwner (now (s .entry))) (pageMark (now (s .entry))) (r .0) n p) × Used (now (known .exit)) (now (s .entry)) ⌝ }
+{
+    if wide(owner(s, p)) == wide(r.0) + 1 {
+        let i = p as usize;
+        let j = lowest_place(s, p, known[i], n);
+        known[i] = j;
+        j
+    } else {
+        n
+    }
+}
+
+// The lowest page that is region r's and has an unused place, with its lowest; else the page past the last one and n.
+fn room_known(s: &[u8], known: &mut [u32; TABLE], r: LiveRegion, n: u32) -> Spot
+    requires { ⌜ (length (now s) ≡ stateBytes) × (n ≤ pageBytes) × Used (now known) (now s) ⌝ }
+    ensures { λ x. ⌜ Found (pageOwner (now (s .entry))) (pageMark (now (s .entry))) firstPage pastPage (r .0) n (x .0) (x .1) × Used (now (known .exit)) (now (s .entry)) ⌝ }
+{
+    let mut p = Machine::FIRST_PAGE;
+    while p < Machine::PAST_PAGE {
+        let j = place_known(s, known, p, r, n);
+        if j < n {
+            return Spot(p, j);
+        }
+        p += 1;
+    }
+    Spot(p, n)
+}
+
+// What a new object of region r takes, n places to a page: rules' `allocate` for objects of a size with n places (chosen-from, allocate-plain).
+pub fn allocate_known(s: &[u8], known: &mut [u32; TABLE], r: LiveRegion, n: u32) -> Chosen
+    requires { ⌜ (length (now s) ≡ stateBytes) × (n ≤ pageBytes) × Used (now known) (now s) ⌝ }
+    ensures { λ c. ⌜ (c ≡ chosen (view (now (s .entry)) .owner) (view (now (s .entry)) .mark) firstPage firstPage pastPage (r .0) n) × Within pastPage n c × Used (now (known .exit)) (now (s .entry)) ⌝ }
+{
+    let x = room_known(s, known, r, n);
+    let p = x.0;
+    let j = x.1;
+    if p < Machine::PAST_PAGE {
+        return Chosen::Place(p, j);
+    }
+    let q = unowned_page(s, Machine::FIRST_PAGE, Machine::PAST_PAGE);
+    if q < Machine::PAST_PAGE {
+        Chosen::Page(q)
+    } else {
+        Chosen::Nothing
+    }
+}
+
+// Place j of page q may be free from now on.
+pub fn forget(known: &mut [u32; TABLE], q: u32, j: u32)
+    requires { ⌜ q < pages ⌝ }
+    ensures { λ _. ⌜ now (known .exit) ≡ forgot (now (known .entry)) q j ⌝ }
+{
+    let i = q as usize;
+    if j < known[i] {
+        known[i] = j;
+    }
+}
+
+// Page p may have free places from now on where nobody owns it.
+fn forget_page(known: &mut [u32; TABLE], s: &[u8], p: u32)
+    requires { ⌜ (length (now s) ≡ stateBytes) × (p < pages) ⌝ }
+    ensures { λ _. ⌜ now (known .exit) ≡ forgotAt (now (known .entry)) (now (s .entry)) p ⌝ }
+{
+    if owner(s, p) == 0 {
+        let i = p as usize;
+        known[i] = 0;
+    }
+}
+
+// The same of each page: what a return leaves unowned has no used place.
+pub fn forget_unowned(known: &mut [u32; TABLE], s: &[u8])
+    requires { ⌜ length (now s) ≡ stateBytes ⌝ }
+    ensures { λ _. ⌜ now (known .exit) ≡ forgotUnowned (now (known .entry)) (now (s .entry)) ⌝ }
+{
+    let mut p: u32 = 0;
+    while p < Machine::PAGES {
+        forget_page(known, s, p);
+        p += 1;
     }
 }
 

@@ -4,7 +4,7 @@ use mathlib.Core.Bool.{true}
 use Prim.Native.Nat.{ℕ, _+_, _-_, _<_, _≤_}
 use native.Mathlib.Omega.{arith}
 use borrow.Author.Tests.{eq-eqb, ne-eqb}
-use borrow.Author.Count.{below-none, below-more}
+use borrow.Author.Count.{below-more}
 use lib.Dec.{eqb}
 use Rattle.words.specs.Bytes.{byteAt}
 use Rattle.words.specs.FirstLaws.{first-found, first-ended}
@@ -15,16 +15,16 @@ use Rattle.pages.proofs.open_byte.Statement.{statement}
 use Rattle.pages.proofs.open_byte.Tie as tie
 
 abbrev Inv-loop : tie.InvT-loop
-Inv-loop s p at i₀ i = (i ≤ 32) × ((k : ℕ) → k < i → eqb (byteAt s (marksPlace p + k)) 255 ≡ true)
+Inv-loop s p from at i₀ i = (i ≤ 32) × ((k : ℕ) → k < i → eqb (byteAt s (marksPlace p + k)) 255 ≡ true)
 
 abbrev μ-loop : tie.MeasureT-loop
-μ-loop s p at i₀ i = 32 - i
+μ-loop s p from at i₀ i = 32 - i
 
 marks-place-requires : tie.Need-marks-place-requires Inv-loop μ-loop
 marks-place-requires c κs = search needs
 
 loop-holds : tie.Need-loop-holds Inv-loop μ-loop
-loop-holds c = (omega arith, below-none _)
+loop-holds c = (omega arith, λ k h. eq-eqb _ _ (c .before .before .pre .3 k h))
 
 add-if1 : tie.Need-add-if1 Inv-loop μ-loop
 add-if1 c = omega arith

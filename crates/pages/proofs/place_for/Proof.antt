@@ -23,7 +23,7 @@ add-if1 : tie.Need-add-if1
 add-if1 c = search needs
 
 lowest-place-requires : tie.Need-lowest-place-requires
-lowest-place-requires c κs = search needs
+lowest-place-requires c κs = (c .before .before .before .before .before .pre .0, c .before .before .before .before .before .pre .1, c .before .before .before .before .before .pre .2, λ j h. absurd (omega arith))
 
 returns : tie.Need-returns
 unfolding placeFor

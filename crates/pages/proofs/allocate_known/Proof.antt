@@ -1,0 +1,30 @@
+-- `pages::allocate_known` meets its contract: the answers of the searches decide the definition's tests.
+use Prim.{tt}
+use Prim.Native.Nat.{_-_}
+use Rattle.rules.specs.State.{view, pageOwner, pageMark}
+use Rattle.pages.specs.Meaning.{place-chosen, page-chosen, nothing-chosen}
+use borrow.Author.Needs.{needs}
+use Rattle.pages.proofs.allocate_known.Statement.{statement}
+use Rattle.pages.proofs.allocate_known.Tie as tie
+
+room-known-requires : tie.Need-room-known-requires
+room-known-requires c κs = search needs
+
+returns : tie.Need-returns
+unfolding view
+returns c = (place-chosen (pageOwner (c .before .before .before .before .args .s .now)) (pageMark (c .before .before .before .before .args .s .now)) 1 1 64 (c .before .before .before .before .args .r .0) (c .before .before .before .before .args .n) (c .before .room-known .result .0) (c .before .room-known .ensures .0 .page) (c .if1 .taken) (c .before .room-known .result .1) (c .before .room-known .ensures .0 .place (c .if1 .taken)), (c .if1 .taken, c .before .room-known .ensures .0 .inside (c .if1 .taken)), c .before .room-known .ensures .1)
+
+unowned-page-requires : tie.Need-unowned-page-requires
+unowned-page-requires c κs = search needs
+
+returns-2 : tie.Need-returns-2
+unfolding view
+returns-2 c = (page-chosen (pageOwner (c .before .before .before .before .before .before .args .s .now)) (pageMark (c .before .before .before .before .before .before .args .s .now)) 1 1 64 (c .before .before .before .before .before .before .args .r .0) (c .before .before .before .before .before .before .args .n) (c .before .before .before .room-known .result .0) (c .before .before .before .room-known .ensures .0 .page) (c .before .before .if1 .left) (c .before .unowned-page .result) (c .before .unowned-page .ensures) (c .if2 .taken), c .if2 .taken, c .before .before .before .room-known .ensures .1)
+
+returns-3 : tie.Need-returns-3
+unfolding view
+returns-3 c = (nothing-chosen (pageOwner (c .before .before .before .before .before .before .args .s .now)) (pageMark (c .before .before .before .before .before .before .args .s .now)) 1 1 64 (c .before .before .before .before .before .before .args .r .0) (c .before .before .before .before .before .before .args .n) (c .before .before .before .room-known .result .0) (c .before .before .before .room-known .ensures .0 .page) (c .before .before .if1 .left) (c .before .unowned-page .result) (c .before .unowned-page .ensures) (c .if2 .left), tt, c .before .before .before .room-known .ensures .1)
+
+pub allocate-known-spec : {M : Type 1} → statement M
+allocate-known-spec =
+    tie.close (tie.spec room-known-requires returns unowned-page-requires returns-2 returns-3)
