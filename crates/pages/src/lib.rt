@@ -11,7 +11,7 @@ ghost use Rattle.rules.specs.Step.{unownedPage};
 ghost use Rattle.state.specs.Marks.{lowestZero};
 ghost use Rattle.pages.specs.Search.{lowestPlace, placeFor, Found};
 ghost use Rattle.pages.specs.Places.{openByte, FullBelow};
-ghost use Rattle.pages.specs.Known.{UsedBelow, Used, forgot, forgotUnowned, forgotAt};
+ghost use Rattle.pages.specs.Known.{UsedBelow, Used, forgot};
 ghost use Rattle.pages.specs.Meaning.{chosen, Within};
 use state::LiveRegion;
 use state::Machine;
@@ -159,10 +159,10 @@ pub fn allocate(s: &[u8], low: u32, free: u32, past: u32, r: LiveRegion, n: u32)
 
 // ---- with a table of the places known to be used, by page
 
-const TABLE: usize = 64;
+const KNOWN: usize = 64;
 
 // The lowest unused place of page p where it is region r's; else n. The table gets what was found.
-fn place_known(s: &[u8], known: &mut [u32; TABLE], p: u32, r: LiveRegion, n: u32) -> u32
+fn place_known(s: &[u8], known: &mut [u32; KNOWN], p: u32, r: LiveRegion, n: u32) -> u32
     requires { ⌜ (length (now s) ≡ stateBytes) × (p < pages) × (n ≤ pageBytes) × Used (now known) (now s) ⌝ }
     ensures { λ j. ⌜ (j ≡ placeFor (pageOwner (now (s .entry))) (pageMark (now (s .entry))) (r .0) n p) × Used (now (known .exit)) (now (s .entry)) ⌝ }
 {
@@ -177,7 +177,7 @@ fn place_known(s: &[u8], known: &mut [u32; TABLE], p: u32, r: LiveRegion, n: u32
 }
 
 // The lowest page that is region r's and has an unused place, with its lowest; else the page past the last one and n.
-fn room_known(s: &[u8], known: &mut [u32; TABLE], r: LiveRegion, n: u32) -> Spot
+fn room_known(s: &[u8], known: &mut [u32; KNOWN], r: LiveRegion, n: u32) -> Spot
     requires { ⌜ (length (now s) ≡ stateBytes) × (n ≤ pageBytes) × Used (now known) (now s) ⌝ }
     ensures { λ x. ⌜ Found (pageOwner (now (s .entry))) (pageMark (now (s .entry))) firstPage pastPage (r .0) n (x .0) (x .1) × Used (now (known .exit)) (now (s .entry)) ⌝ }
 {
@@ -193,7 +193,7 @@ fn room_known(s: &[u8], known: &mut [u32; TABLE], r: LiveRegion, n: u32) -> Spot
 }
 
 // What a new object of region r takes, n places to a page: rules' `allocate` for objects of a size with n places (chosen-from, allocate-plain).
-pub fn allocate_known(s: &[u8], known: &mut [u32; TABLE], r: LiveRegion, n: u32) -> Chosen
+pub fn allocate_known(s: &[u8], known: &mut [u32; KNOWN], r: LiveRegion, n: u32) -> Chosen
     requires { ⌜ (length (now s) ≡ stateBytes) × (n ≤ pageBytes) × Used (now known) (now s) ⌝ }
     ensures { λ c. ⌜ (c ≡ chosen (view (now (s .entry)) .owner) (view (now (s .entry)) .mark) firstPage firstPage pastPage (r .0) n) × Within pastPage n c × Used (now (known .exit)) (now (s .entry)) ⌝ }
 {
@@ -212,36 +212,13 @@ pub fn allocate_known(s: &[u8], known: &mut [u32; TABLE], r: LiveRegion, n: u32)
 }
 
 // Place j of page q may be free from now on.
-pub fn forget(known: &mut [u32; TABLE], q: u32, j: u32)
+pub fn forget(known: &mut [u32; KNOWN], q: u32, j: u32)
     requires { ⌜ q < pages ⌝ }
     ensures { λ _. ⌜ now (known .exit) ≡ forgot (now (known .entry)) q j ⌝ }
 {
     let i = q as usize;
     if j < known[i] {
         known[i] = j;
-    }
-}
-
-// Page p may have free places from now on where nobody owns it.
-fn forget_page(known: &mut [u32; TABLE], s: &[u8], p: u32)
-    requires { ⌜ (length (now s) ≡ stateBytes) × (p < pages) ⌝ }
-    ensures { λ _. ⌜ now (known .exit) ≡ forgotAt (now (known .entry)) (now (s .entry)) p ⌝ }
-{
-    if owner(s, p) == 0 {
-        let i = p as usize;
-        known[i] = 0;
-    }
-}
-
-// The same of each page: what a return leaves unowned has no used place.
-pub fn forget_unowned(known: &mut [u32; TABLE], s: &[u8])
-    requires { ⌜ length (now s) ≡ stateBytes ⌝ }
-    ensures { λ _. ⌜ now (known .exit) ≡ forgotUnowned (now (known .entry)) (now (s .entry)) ⌝ }
-{
-    let mut p: u32 = 0;
-    while p < Machine::PAGES {
-        forget_page(known, s, p);
-        p += 1;
     }
 }
 
