@@ -10,6 +10,7 @@ ghost use Rattle.rules.specs.State.{frameFunction, frameRegister, frameMap, wri
 ghost use Rattle.rules.specs.Heap.{localList};
 ghost use Rattle.state.specs.Puts.{after};
 ghost use Rattle.state.specs.NewFrame.{putRegion};
+ghost use Rattle.pages.specs.Known.{Used};
 ghost use Rattle.frames.specs.Packed.{packed};
 ghost use Rattle.frames.specs.Regions.{marked, lowestIn, filled, numberIn, liveBy, Bounded};
 ghost use Rattle.frames.specs.Entered.{putRegisters, putRegions, begun, enteredMap, enteredRegisters, Operands};
@@ -34,6 +35,9 @@ use words::wide;
 const SET: usize = 257;
 
 const TABLE: usize = 256;
+
+// Of each page the places known to be used (pages).
+const KNOWN: usize = 64;
 
 // ---- sets of regions: entry 1 + r is 1 where region r is in the set
 
@@ -217,46 +221,58 @@ pub fn enter(
 // ---- a return
 
 // Page p is nobody's now and has no used place, where a region of the set owns it.
-fn close_page(a: &[u8; SET], s: &mut [u8], p: u32)
-    requires { ⌜ (length (now s) ≡ stateBytes) × (p < pages) ⌝ }
-    ensures { λ _. ⌜ now (s .exit) ≡ closedIf (ownedIn (now (a .entry)) (now (s .entry)) p) p (now (s .entry)) ⌝ }
+fn close_page(a: &[u8; SET], s: &mut [u8], known: &mut [u32; KNOWN], p: u32)
+    requires { ⌜ (length (now s) ≡ stateBytes) × (p < pages) × Used (now known) (now s) ⌝ }
+    ensures { λ _. ⌜ (now (s .exit) ≡ closedIf (ownedIn (now (a .entry)) (now (s .entry)) p) p (now (s .entry))) × Used (now (known .exit)) (now (s .exit)) ⌝ }
 {
     let i = owner(s, p) as usize;
     if a[i] != 0 {
+        let q = p as usize;
+        known[q] = 0;
         put_owner(s, p, 0);
         clear_marks(s, p);
     }
 }
 
-fn close_pages(a: &[u8; SET], s: &mut [u8])
-    requires { ⌜ length (now s) ≡ stateBytes ⌝ }
-    ensures { λ _. ⌜ now (s .exit) ≡ written (closingBy (ownedIn (now (a .entry)) (now (s .entry))) pages) (now (s .entry)) ⌝ }
+fn close_pages(a: &[u8; SET], s: &mut [u8], known: &mut [u32; KNOWN])
+    requires { ⌜ (length (now s) ≡ stateBytes) × Used (now known) (now s) ⌝ }
+    ensures { λ _. ⌜ (now (s .exit) ≡ written (closingBy (ownedIn (now (a .entry)) (now (s .entry))) pages) (now (s .entry))) × Used (now (known .exit)) (now (s .exit)) ⌝ }
 {
     let mut p: u32 = 0;
     while p < Machine::PAGES {
-        close_page(a, s, p);
+        close_page(a, s, known, p);
         p += 1;
     }
 }
 
 // The pages of frame k's m local regions, behind n region parameters: none where there is no local region.
-fn close_locals(s: &mut [u8], k: u32, n: u32, m: u32)
-    requires { ⌜ (length (now s) ≡ stateBytes) × (k < mostFrames) × (n + m ≤ mostRegions) ⌝ }
-    ensures { λ _. ⌜ now (s .exit) ≡ written (closingBy (ownedIn (localSet (now (s .entry)) k n m) (now (s .entry))) pages) (now (s .entry)) ⌝ }
+fn close_locals(s: &mut [u8], known: &mut [u32; KNOWN], k: u32, n: u32, m: u32)
+    requires { ⌜ (length (now s) ≡ stateBytes) × (k < mostFrames) × (n + m ≤ mostRegions) × Used (now known) (now s) ⌝ }
+    ensures { λ _. ⌜ (now (s .exit) ≡ written (closingBy (ownedIn (localSet (now (s .entry)) k n m) (now (s .entry))) pages) (now (s .entry))) × Used (now (known .exit)) (now (s .exit)) ⌝ }
 {
     if 0 < m {
         let mut a = [0u8; SET];
         add_locals(&mut a, s, k, n, m);
-        close_pages(&a, s);
+        close_pages(&a, s, known);
     }
 }
 
-// The return of frame k, which is the top frame, of a function with n region parameters and m local regions.
+// The return of frame k, which is the top frame, of a function with n region parameters and m local regions. Of the pages that it closes
+// nothing is known to be used.
+pub fn leave_known(s: &mut [u8], known: &mut [u32; KNOWN], k: u32, n: u32, m: u32)
+    requires { ⌜ (length (now s) ≡ stateBytes) × (k < mostFrames) × (n + m ≤ mostRegions) × Used (now known) (now s) ⌝ }
+    ensures { λ _. ⌜ (now (s .exit) ≡ written (leavingBy (ownedIn (localSet (now (s .entry)) k n m) (now (s .entry))) k) (now (s .entry))) × Used (now (known .exit)) (now (s .exit)) ⌝ }
+{
+    close_locals(s, known, k, n, m);
+    clear_frame(s, k);
+    put_frames(s, k as u8);
+}
+
+// The same where nothing is known.
 pub fn leave(s: &mut [u8], k: u32, n: u32, m: u32)
     requires { ⌜ (length (now s) ≡ stateBytes) × (k < mostFrames) × (n + m ≤ mostRegions) ⌝ }
     ensures { λ _. ⌜ now (s .exit) ≡ written (leavingBy (ownedIn (localSet (now (s .entry)) k n m) (now (s .entry))) k) (now (s .entry)) ⌝ }
 {
-    close_locals(s, k, n, m);
-    clear_frame(s, k);
-    put_frames(s, k as u8);
+    let mut known = [0u32; KNOWN];
+    leave_known(s, &mut known, k, n, m);
 }

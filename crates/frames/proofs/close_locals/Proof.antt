@@ -18,10 +18,10 @@ same-length c = search needs
 
 returns : tie.Need-returns
 unfolding noRegions
-returns c = rw (c .before .before .before .before .before .add-locals .ensures) at (c .before .before .close-pages .ensures)
+returns c = (rw (c .before .before .before .before .before .before .add-locals .ensures) at (c .before .before .close-pages .ensures .0), c .before .before .close-pages .ensures .1)
 
 returns-2 : tie.Need-returns-2
-returns-2 c = closing-plain (c .before .before .args .s .now) (c .before .before .args .k) (c .before .before .args .n) (c .before .before .args .m) (omega arith)
+returns-2 c = (closing-plain (c .before .before .args .s .now) (c .before .before .args .k) (c .before .before .args .n) (c .before .before .args .m) (omega arith), c .before .before .pre .3)
 
 pub close-locals-spec : {M : Type 1} → statement M
 close-locals-spec =
