@@ -14,7 +14,7 @@ ghost use Rattle.pages.specs.Known.{Used};
 ghost use Rattle.frames.specs.Packed.{packed};
 ghost use Rattle.frames.specs.Regions.{marked, lowestIn, filled, numberIn, liveBy, Bounded};
 ghost use Rattle.frames.specs.Entered.{putRegisters, putRegions, begun, enteredMap, enteredRegisters, Operands};
-ghost use Rattle.frames.specs.Left.{closingBy, leavingBy, closedIf, ownedIn, localSet};
+ghost use Rattle.frames.specs.Left.{closingBy, closedFrom, leavingBy, closedIf, ownedIn, localSet};
 use state::LiveRegion;
 use state::Machine;
 use state::RegionVariable;
@@ -29,7 +29,9 @@ use state::fields::put_region;
 use state::fields::put_register;
 use state::fields::region_of;
 use state::fields::register;
+use state::places::owner_place;
 use words::wide;
+use words::word_at;
 
 // The entries of a set of regions, and of a table by function number.
 const SET: usize = 257;
@@ -234,14 +236,36 @@ fn close_page(a: &[u8; SET], s: &mut [u8], known: &mut [u32; KNOWN], p: u32)
     }
 }
 
+// The four pages from p on.
+fn close_four(a: &[u8; SET], s: &mut [u8], known: &mut [u32; KNOWN], p: u32)
+    requires { ⌜ (length (now s) ≡ stateBytes) × (p + 4 ≤ pages) × Used (now known) (now s) ⌝ }
+    ensures { λ _. ⌜ (now (s .exit) ≡ closedFrom (now (a .entry)) p 4 (now (s .entry))) × Used (now (known .exit)) (now (s .exit)) ⌝ }
+{
+    let mut i: u32 = 0;
+    while i < 4 {
+        close_page(a, s, known, p + i);
+        i += 1;
+    }
+}
+
+// The four pages from p on, where one has an owner: of the others there is nothing to close.
+fn close_owned(a: &[u8; SET], s: &mut [u8], known: &mut [u32; KNOWN], p: u32)
+    requires { ⌜ (length (now s) ≡ stateBytes) × (p + 4 ≤ pages) × (byteAt (now a) 0 ≡ 0) × Used (now known) (now s) ⌝ }
+    ensures { λ _. ⌜ (now (s .exit) ≡ closedFrom (now (a .entry)) p 4 (now (s .entry))) × Used (now (known .exit)) (now (s .exit)) ⌝ }
+{
+    if word_at(s, owner_place(p)) != 0 {
+        close_four(a, s, known, p);
+    }
+}
+
 fn close_pages(a: &[u8; SET], s: &mut [u8], known: &mut [u32; KNOWN])
-    requires { ⌜ (length (now s) ≡ stateBytes) × Used (now known) (now s) ⌝ }
+    requires { ⌜ (length (now s) ≡ stateBytes) × (byteAt (now a) 0 ≡ 0) × Used (now known) (now s) ⌝ }
     ensures { λ _. ⌜ (now (s .exit) ≡ written (closingBy (ownedIn (now (a .entry)) (now (s .entry))) pages) (now (s .entry))) × Used (now (known .exit)) (now (s .exit)) ⌝ }
 {
-    let mut p: u32 = 0;
-    while p < Machine::PAGES {
-        close_page(a, s, known, p);
-        p += 1;
+    let mut i: u32 = 0;
+    while i < 16 {
+        close_owned(a, s, known, 4 * i);
+        i += 1;
     }
 }
 

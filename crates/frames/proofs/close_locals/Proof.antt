@@ -1,7 +1,9 @@
 -- `frames::close_locals` meets its contract: the set of the frame's local regions, or none.
+use mathlib.Core.Path.{ap, _∙_}
 use Prim.Native.Nat.{_-_}
 use native.Mathlib.Omega.{arith}
-use Rattle.frames.specs.Regions.{noRegions}
+use Rattle.words.specs.Bytes.{Bytes, byteAt}
+use Rattle.frames.specs.Regions.{noRegions, marked-zero}
 use Rattle.frames.specs.Left.{closing-plain}
 use borrow.Author.Needs.{needs}
 use Rattle.frames.proofs.close_locals.Statement.{statement}
@@ -11,7 +13,8 @@ add-locals-requires : tie.Need-add-locals-requires
 add-locals-requires c κs = search needs
 
 close-pages-requires : tie.Need-close-pages-requires
-close-pages-requires c κs = search needs
+unfolding noRegions
+close-pages-requires c κs = (c .before .before .before .before .before .before .before .before .pre .0, ap (λ (b : Bytes). byteAt b 0) (c .before .before .before .add-locals .ensures) ∙ marked-zero _, c .before .before .before .before .before .before .before .before .pre .3)
 
 same-length : tie.Need-same-length
 same-length c = search needs
