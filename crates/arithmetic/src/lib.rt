@@ -1,7 +1,8 @@
-// Kinds 18 to 20 in code: operations on integers of w bytes, w being 1, 2 or 4.
+// Kinds 18 to 20 in code: operations on integers of w bytes, w being 1, 2 or 4. The largest of them comes with the width as a mask, so
+// that wrapping is one `and`.
 ghost use mathlib.Core.Path.{_≡_};
 ghost use mathlib.Core.Bool.{Bool};
-ghost use Prim.Native.Nat.{_+_, _-_, _%_, _/_, _*_, _^_, _≤_, _<_};
+ghost use Prim.Native.Nat.{ℕ, _+_, _-_, _%_, _/_, _*_, _^_, _≤_, _<_};
 ghost use lib.Dec.{ltb, eqb};
 ghost use Rattle.words.specs.Widths.{IsWidth};
 ghost use Rattle.rules.specs.Arithmetic.{value, halt, cut, flag, valueIf, leftBy, rightBy, magnitude, nearestBy, negative, biased, operationOf, operated, signExtended};
@@ -38,13 +39,11 @@ fn range(w: u64) -> u64
     }
 }
 
-// n cut to w bytes.
-pub fn cut_to(n: u64, w: u64) -> u32
-    requires { ⌜ IsWidth w ⌝ }
-    ensures { λ r. ⌜ r ≡ cut w n ⌝ }
+// n cut to the width whose largest number is m.
+pub fn cut_by(n: u64, m: u32) -> u32
+    ensures { λ r. ⌜ ((w : ℕ) → IsWidth w → m + 1 ≡ 256 ^ w → r ≡ cut w n) ⌝ }
 {
-    let m = range(w);
-    (n % m) as u32
+    (n & wide(m)) as u32
 }
 
 // The width in bits.
@@ -70,13 +69,13 @@ fn bias(w: u64, x: u32) -> u64
     (wide(x) + m / 2) % m
 }
 
-fn shift_left(w: u64, x: u32, y: u32) -> Number
-    requires { ⌜ IsWidth w ⌝ }
+fn shift_left(w: u64, m: u32, x: u32, y: u32) -> Number
+    requires { ⌜ (IsWidth w) × (m + 1 ≡ 256 ^ w) ⌝ }
     ensures { λ r. ⌜ computedOf r ≡ leftBy (ltb y (8 * w)) w x y ⌝ }
 {
     let n = wide(y);
     if n < bits_of(w) {
-        Number::Is(cut_to(wide(x) << n, w))
+        Number::Is(cut_by(wide(x) << n, m))
     } else {
         Number::Stop(37)
     }
@@ -182,27 +181,26 @@ fn remainder(x: u32, y: u32) -> Number
     }
 }
 
-fn subtract(w: u64, x: u32, y: u32) -> u32
-    requires { ⌜ (IsWidth w) × (y < 256 ^ w) ⌝ }
-    ensures { λ r. ⌜ r ≡ cut w (x + (256 ^ w - y)) ⌝ }
+// A multiple of every range comes in before the cut, so that the difference is none below zero.
+fn subtract(m: u32, x: u32, y: u32) -> u32
+    ensures { λ r. ⌜ ((w : ℕ) → IsWidth w → m + 1 ≡ 256 ^ w → y < 256 ^ w → r ≡ cut w (x + (256 ^ w - y))) ⌝ }
 {
-    let m = range(w);
-    cut_to(wide(x) + (m - wide(y)), w)
+    cut_by(wide(x) + (WORD - wide(y)), m)
 }
 
-// Operation op on two integers of w bytes.
-pub fn compute(op: u32, w: u64, x: u32, y: u32) -> Number
-    requires { ⌜ (IsWidth w) × (y < 256 ^ w) ⌝ }
+// Operation op on two integers of w bytes, of which m is the largest.
+pub fn compute(op: u32, w: u64, m: u32, x: u32, y: u32) -> Number
+    requires { ⌜ (IsWidth w) × (m + 1 ≡ 256 ^ w) × (y < 256 ^ w) ⌝ }
     ensures { λ r. ⌜ computedOf r ≡ operated (operationOf op) w x y ⌝ }
 {
     match op {
-        0 => Number::Is(cut_to(wide(x) + wide(y), w)),
-        1 => Number::Is(subtract(w, x, y)),
-        2 => Number::Is(cut_to(wide(x) * wide(y), w)),
+        0 => Number::Is(cut_by(wide(x) + wide(y), m)),
+        1 => Number::Is(subtract(m, x, y)),
+        2 => Number::Is(cut_by(wide(x) * wide(y), m)),
         3 => Number::Is(x & y),
         4 => Number::Is(x | y),
         5 => Number::Is(x ^ y),
-        6 => shift_left(w, x, y),
+        6 => shift_left(w, m, x, y),
         7 => shift_right(w, x, y),
         8 => quotient(x, y),
         9 => remainder(x, y),
@@ -214,15 +212,15 @@ pub fn compute(op: u32, w: u64, x: u32, y: u32) -> Number
     }
 }
 
-// x of w bytes with its sign, cut to u bytes.
-pub fn extend(u: u64, w: u64, x: u32) -> u32
-    requires { ⌜ (IsWidth u) × (IsWidth w) ⌝ }
-    ensures { λ r. ⌜ r ≡ signExtended u w x ⌝ }
+// x of w bytes with its sign, cut to the width whose largest number is m.
+pub fn extend(m: u32, w: u64, x: u32) -> u32
+    requires { ⌜ IsWidth w ⌝ }
+    ensures { λ r. ⌜ ((u : ℕ) → IsWidth u → m + 1 ≡ 256 ^ u → r ≡ signExtended u w x) ⌝ }
 {
-    let m = range(w);
-    if 2 * wide(x) < m {
-        cut_to(wide(x), u)
+    let past = range(w);
+    if 2 * wide(x) < past {
+        cut_by(wide(x), m)
     } else {
-        cut_to(wide(x) + (WORD - m), u)
+        cut_by(wide(x) + (WORD - past), m)
     }
 }

@@ -1,8 +1,8 @@
 -- `arithmetic::compute` meets its contract: in each arm the number of the operation is known, and the definition computes.
-use mathlib.Core.Path.{refl}
+use mathlib.Core.Path.{refl, ap, _∙_}
 use Prim.Native.Nat.{_-_}
 use native.Mathlib.Omega.{arith}
-use Rattle.rules.specs.Arithmetic.{operationOf, operated}
+use Rattle.rules.specs.Arithmetic.{value, operationOf, operated}
 use Rattle.arithmetic.specs.Laws.{below, operation-none, not-next}
 use borrow.Author.Needs.{needs}
 use Rattle.arithmetic.proofs.compute.Statement.{statement}
@@ -14,11 +14,11 @@ wide-requires c κs = search needs
 wide-requires-2 : tie.Need-wide-requires-2
 wide-requires-2 c κs = search needs
 
-add-cut-to : tie.Need-add-cut-to
-add-cut-to c = search needs
+add-cut-by : tie.Need-add-cut-by
+add-cut-by c = search needs
 
-cut-to-requires : tie.Need-cut-to-requires
-cut-to-requires c κs = search needs
+cut-by-requires : tie.Need-cut-by-requires
+cut-by-requires c κs = search needs
 
 subtract-requires : tie.Need-subtract-requires
 subtract-requires c κs = search needs
@@ -29,11 +29,11 @@ wide-requires-3 c κs = search needs
 wide-requires-4 : tie.Need-wide-requires-4
 wide-requires-4 c κs = search needs
 
-mul-cut-to : tie.Need-mul-cut-to
-mul-cut-to c = record { fits = below 32 (search needs) (search needs) }
+mul-cut-by : tie.Need-mul-cut-by
+mul-cut-by c = record { fits = below 32 (search needs) (search needs) }
 
-cut-to-requires-2 : tie.Need-cut-to-requires-2
-cut-to-requires-2 c κs = search needs
+cut-by-requires-2 : tie.Need-cut-by-requires-2
+cut-by-requires-2 c κs = search needs
 
 shift-left-requires : tie.Need-shift-left-requires
 shift-left-requires c κs = search needs
@@ -67,15 +67,15 @@ flag-of-requires-3 c κs = search needs
 
 returns : tie.Need-returns
 unfolding operationOf operated
-returns c = rw (c .before .before .before .match .keys1) (cc)
+returns c = let p = c .before .before .before .before .pre in rw (c .before .before .before .match .keys1) (ap value (c .cut-by .ensures _ (p .0) (p .1) ∙ cc))
 
 returns-2 : tie.Need-returns-2
 unfolding operationOf operated
-returns-2 c = rw (c .before .match .keys2) (cc)
+returns-2 c = let p = c .before .before .pre in rw (c .before .match .keys2) (ap value (c .subtract .ensures _ (p .0) (p .1) (p .2)))
 
 returns-3 : tie.Need-returns-3
 unfolding operationOf operated
-returns-3 c = rw (c .before .before .before .match .keys3) (cc)
+returns-3 c = let p = c .before .before .before .before .pre in rw (c .before .before .before .match .keys3) (ap value (c .cut-by2 .ensures _ (p .0) (p .1) ∙ cc))
 
 returns-4 : tie.Need-returns-4
 unfolding operationOf operated
@@ -131,13 +131,13 @@ compute-spec =
     (tie.spec
     wide-requires
     wide-requires-2
-    add-cut-to
-    cut-to-requires
+    add-cut-by
+    cut-by-requires
     subtract-requires
     wide-requires-3
     wide-requires-4
-    mul-cut-to
-    cut-to-requires-2
+    mul-cut-by
+    cut-by-requires-2
     shift-left-requires
     shift-right-requires
     quotient-requires

@@ -1,4 +1,5 @@
 -- `arithmetic::extend` meets its contract, by the definition.
+use mathlib.Core.Path.{_∙_}
 use Prim.Native.Nat.{_-_, _*_, _^_, _<_, _≤_}
 use native.Mathlib.Omega.{arith}
 use borrow.Author.Tests.{lt-ltb, le-ltb}
@@ -19,28 +20,28 @@ mul-if1 c = search needs
 wide-requires-2 : tie.Need-wide-requires-2
 wide-requires-2 c κs = search needs
 
-cut-to-requires : tie.Need-cut-to-requires
-cut-to-requires c κs = search needs
+cut-by-requires : tie.Need-cut-by-requires
+cut-by-requires c κs = search needs
 
 wide-requires-3 : tie.Need-wide-requires-3
 wide-requires-3 c κs = search needs
 
-sub-cut-to : tie.Need-sub-cut-to
-sub-cut-to c = search needs
+sub-cut-by : tie.Need-sub-cut-by
+sub-cut-by c = search needs
 
-add-cut-to : tie.Need-add-cut-to
-add-cut-to c = search needs
+add-cut-by : tie.Need-add-cut-by
+add-cut-by c = search needs
 
-cut-to-requires-2 : tie.Need-cut-to-requires-2
-cut-to-requires-2 c κs = search needs
+cut-by-requires-2 : tie.Need-cut-by-requires-2
+cut-by-requires-2 c κs = search needs
 
 returns : tie.Need-returns
 unfolding signExtended
-returns c = let h : 2 * c .before .before .before .before .before .args .x < 256 ^ c .before .before .before .before .before .args .w = omega arith in rw (lt-ltb _ _ h) (cc)
+returns c = let h : 2 * c .before .before .before .before .before .args .x < 256 ^ c .before .before .before .before .before .args .w = omega arith in λ u l e. rw (lt-ltb _ _ h) (c .cut-by .ensures u l e ∙ cc)
 
 returns-2 : tie.Need-returns-2
 unfolding signExtended
-returns-2 c = let h : 256 ^ c .before .before .before .before .before .args .w ≤ 2 * c .before .before .before .before .before .args .x = omega arith in rw (le-ltb _ _ h) (cc)
+returns-2 c = let h : 256 ^ c .before .before .before .before .before .args .w ≤ 2 * c .before .before .before .before .before .args .x = omega arith in λ u l e. rw (le-ltb _ _ h) (c .cut-by2 .ensures u l e ∙ cc)
 
 pub extend-spec : {M : Type 1} → statement M
 extend-spec =
@@ -50,10 +51,10 @@ extend-spec =
     wide-requires
     mul-if1
     wide-requires-2
-    cut-to-requires
+    cut-by-requires
     wide-requires-3
-    sub-cut-to
-    add-cut-to
-    cut-to-requires-2
+    sub-cut-by
+    add-cut-by
+    cut-by-requires-2
     returns
     returns-2)

@@ -18,17 +18,17 @@ bits-of-requires c κs = search needs
 wide-requires-2 : tie.Need-wide-requires-2
 wide-requires-2 c κs = search needs
 
-shl-cut-to : tie.Need-shl-cut-to
-shl-cut-to c = search needs
+shl-cut-by : tie.Need-shl-cut-by
+shl-cut-by c = search needs
 
-cut-to-requires : tie.Need-cut-to-requires
-cut-to-requires c κs = search needs
+cut-by-requires : tie.Need-cut-by-requires
+cut-by-requires c κs = search needs
 
 returns : tie.Need-returns
 unfolding leftBy
 returns c = let h : c .before .before .before .before .before .args .y < 8 * c .before .before .before .before .before .args .w = omega arith in
     let k : c .before .before .before .before .wide .result < 32 = omega arith in
-    rw (lt-ltb _ _ h) (ap value (c .cut-to .ensures ∙ rw (shl-exact {a = c .before .wide2 .result} 32 (c .before .before .before .before .wide .result) 64 (search needs) (omega arith)) (cc)))
+    rw (lt-ltb _ _ h) (ap value (c .cut-by .ensures _ (c .before .before .before .before .before .pre .0) (c .before .before .before .before .before .pre .1) ∙ rw (shl-exact {a = c .before .wide2 .result} 32 (c .before .before .before .before .wide .result) 64 (search needs) (omega arith)) (cc)))
 
 returns-2 : tie.Need-returns-2
 unfolding leftBy
@@ -41,7 +41,7 @@ shift-left-spec =
     wide-requires
     bits-of-requires
     wide-requires-2
-    shl-cut-to
-    cut-to-requires
+    shl-cut-by
+    cut-by-requires
     returns
     returns-2)

@@ -1,11 +1,10 @@
--- `arithmetic::subtract` meets its contract, by the definition.
+-- `arithmetic::subtract` meets its contract, since every range divides 256 ^ 4.
+use mathlib.Core.Path.{_∙_}
 use Prim.Native.Nat.{_-_}
+use Rattle.arithmetic.specs.Laws.{cut-wrapped}
 use borrow.Author.Needs.{needs}
 use Rattle.arithmetic.proofs.subtract.Statement.{statement}
 use Rattle.arithmetic.proofs.subtract.Tie as tie
-
-range-requires : tie.Need-range-requires
-range-requires c κs = search needs
 
 wide-requires : tie.Need-wide-requires
 wide-requires c κs = search needs
@@ -13,26 +12,19 @@ wide-requires c κs = search needs
 wide-requires-2 : tie.Need-wide-requires-2
 wide-requires-2 c κs = search needs
 
-sub-cut-to : tie.Need-sub-cut-to
-sub-cut-to c = search needs
+sub-cut-by : tie.Need-sub-cut-by
+sub-cut-by c = search needs
 
-add-cut-to : tie.Need-add-cut-to
-add-cut-to c = search needs
+add-cut-by : tie.Need-add-cut-by
+add-cut-by c = search needs
 
-cut-to-requires : tie.Need-cut-to-requires
-cut-to-requires c κs = search needs
+cut-by-requires : tie.Need-cut-by-requires
+cut-by-requires c κs = search needs
 
 returns : tie.Need-returns
-returns c = cc
+returns c = let a = c .before .before .before .args in λ w h e l. c .cut-by .ensures w h e ∙ rw (c .before .before .wide .ensures .0, c .before .wide2 .ensures .0) (cut-wrapped (a .x) (a .y) w h l)
 
 pub subtract-spec : {M : Type 1} → statement M
 subtract-spec =
     tie.close
-    (tie.spec
-    range-requires
-    wide-requires
-    wide-requires-2
-    sub-cut-to
-    add-cut-to
-    cut-to-requires
-    returns)
+    (tie.spec wide-requires wide-requires-2 sub-cut-by add-cut-by cut-by-requires returns)
