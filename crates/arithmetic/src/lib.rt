@@ -1,5 +1,5 @@
-// Kinds 18 to 20 in code: operations on integers of w bytes, w being 1, 2 or 4. The largest of them comes with the width as a mask, so
-// that wrapping is one `and`.
+// Kinds 18 to 20 in code: operations on integers of w bytes, w being 1, 2 or 4. The largest number of a width
+// comes with it as a mask m, so that wrapping is one `and`.
 ghost use mathlib.Core.Path.{_≡_};
 ghost use mathlib.Core.Bool.{Bool};
 ghost use Prim.Native.Nat.{ℕ, _+_, _-_, _%_, _/_, _*_, _^_, _≤_, _<_};
@@ -181,7 +181,7 @@ fn remainder(x: u32, y: u32) -> Number
     }
 }
 
-// A multiple of every range comes in before the cut, so that the difference is none below zero.
+// 256 ^ 4 is added before the cut, so that nothing goes below zero: every range divides it.
 fn subtract(m: u32, x: u32, y: u32) -> u32
     ensures { λ r. ⌜ ((w : ℕ) → IsWidth w → m + 1 ≡ 256 ^ w → y < 256 ^ w → r ≡ cut w (x + (256 ^ w - y))) ⌝ }
 {

@@ -1,6 +1,5 @@
 -- `arithmetic::cut_by` meets its contract: an `and` is at most the mask, and with the largest number of a width it cuts.
 use mathlib.Core.Path.{ap, _∙_}
-use Prim.Native.Nat.{_-_}
 use native.Mathlib.Nat.{lt-of-le-of-lt}
 use lib.Bits.{bitAnd, and-le-r}
 use Rattle.arithmetic.specs.Laws.{cut-mask}
