@@ -1,0 +1,3 @@
+-- What the leaves of a step do.
+pub mod Does
+pub mod Laws
