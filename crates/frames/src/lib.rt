@@ -283,20 +283,11 @@ fn close_locals(s: &mut [u8], known: &mut [u32; KNOWN], k: u32, n: u32, m: u32)
 
 // The return of frame k, which is the top frame, of a function with n region parameters and m local regions. Of the pages that it closes
 // nothing is known to be used.
-pub fn leave_known(s: &mut [u8], known: &mut [u32; KNOWN], k: u32, n: u32, m: u32)
+pub fn leave(s: &mut [u8], known: &mut [u32; KNOWN], k: u32, n: u32, m: u32)
     requires { ⌜ (length (now s) ≡ stateBytes) × (k < mostFrames) × (n + m ≤ mostRegions) × Used (now known) (now s) ⌝ }
     ensures { λ _. ⌜ (now (s .exit) ≡ written (leavingBy (ownedIn (localSet (now (s .entry)) k n m) (now (s .entry))) k) (now (s .entry))) × Used (now (known .exit)) (now (s .exit)) ⌝ }
 {
     close_locals(s, known, k, n, m);
     clear_frame(s, k);
     put_frames(s, k as u8);
-}
-
-// The same where nothing is known.
-pub fn leave(s: &mut [u8], k: u32, n: u32, m: u32)
-    requires { ⌜ (length (now s) ≡ stateBytes) × (k < mostFrames) × (n + m ≤ mostRegions) ⌝ }
-    ensures { λ _. ⌜ now (s .exit) ≡ written (leavingBy (ownedIn (localSet (now (s .entry)) k n m) (now (s .entry))) k) (now (s .entry)) ⌝ }
-{
-    let mut known = [0u32; KNOWN];
-    leave_known(s, &mut known, k, n, m);
 }

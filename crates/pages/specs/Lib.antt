@@ -1,6 +1,5 @@
 -- The allocator's searches, what its answer means, and the laws of both.
 pub mod Search
-pub mod Hints
 pub mod Places
 pub mod Meaning
 pub mod Applied

@@ -92,35 +92,9 @@ fn lowest_place(s: &[u8], p: u32, from: u32, n: u32) -> u32
     }
 }
 
-// ---- pages
+// ---- pages. `known` counts, for each page, the places from the first on that are known to be used
 
-// The lowest unused place of page p where it is region r's; else n.
-fn place_for(s: &[u8], p: u32, r: LiveRegion, n: u32) -> u32
-    requires { ⌜ (length (now s) ≡ stateBytes) × (p < pages) × (n ≤ pageBytes) ⌝ }
-    ensures { λ j. ⌜ j ≡ placeFor (pageOwner (now (s .entry))) (pageMark (now (s .entry))) (r .0) n p ⌝ }
-{
-    if wide(owner(s, p)) == wide(r.0) + 1 {
-        lowest_place(s, p, 0, n)
-    } else {
-        n
-    }
-}
-
-// The lowest page from low on, and below past, that is region r's and has an unused place, with its lowest; else past and n.
-pub fn find_room(s: &[u8], low: u32, past: u32, r: LiveRegion, n: u32) -> Spot
-    requires { ⌜ (length (now s) ≡ stateBytes) × (low ≤ past) × (past ≤ pages) × (n ≤ pageBytes) ⌝ }
-    ensures { λ x. ⌜ Found (pageOwner (now (s .entry))) (pageMark (now (s .entry))) low past (r .0) n (x .0) (x .1) ⌝ }
-{
-    let mut p = low;
-    while p < past {
-        let j = place_for(s, p, r, n);
-        if j < n {
-            return Spot(p, j);
-        }
-        p += 1;
-    }
-    Spot(p, n)
-}
+const KNOWN: usize = 64;
 
 // The lowest page from low on, and below past, that nobody owns; else past.
 pub fn unowned_page(s: &[u8], low: u32, past: u32) -> u32
@@ -137,32 +111,8 @@ pub fn unowned_page(s: &[u8], low: u32, past: u32) -> u32
     q
 }
 
-// What a new object of region r takes, n places to a page. For objects of a size with n places it is rules' `allocate` (chosen-effect) where
-// pages below low have no room for it and pages below free are owned (allocate-hint), so always from the first page on (allocate-plain).
-pub fn allocate(s: &[u8], low: u32, free: u32, past: u32, r: LiveRegion, n: u32) -> Chosen
-    requires { ⌜ (length (now s) ≡ stateBytes) × (low ≤ past) × (free ≤ past) × (past ≤ pages) × (n ≤ pageBytes) ⌝ }
-    ensures { λ c. ⌜ (c ≡ chosen (view (now (s .entry)) .owner) (view (now (s .entry)) .mark) low free past (r .0) n) × Within past n c ⌝ }
-{
-    let x = find_room(s, low, past, r, n);
-    let p = x.0;
-    let j = x.1;
-    if p < past {
-        return Chosen::Place(p, j);
-    }
-    let q = unowned_page(s, free, past);
-    if q < past {
-        Chosen::Page(q)
-    } else {
-        Chosen::Nothing
-    }
-}
-
-// ---- with a table of the places known to be used, by page
-
-const KNOWN: usize = 64;
-
 // The lowest unused place of page p where it is region r's; else n. The table gets what was found.
-fn place_known(s: &[u8], known: &mut [u32; KNOWN], p: u32, r: LiveRegion, n: u32) -> u32
+fn place_for(s: &[u8], known: &mut [u32; KNOWN], p: u32, r: LiveRegion, n: u32) -> u32
     requires { ⌜ (length (now s) ≡ stateBytes) × (p < pages) × (n ≤ pageBytes) × Used (now known) (now s) ⌝ }
     ensures { λ j. ⌜ (j ≡ placeFor (pageOwner (now (s .entry))) (pageMark (now (s .entry))) (r .0) n p) × Used (now (known .exit)) (now (s .entry)) ⌝ }
 {
@@ -177,13 +127,13 @@ fn place_known(s: &[u8], known: &mut [u32; KNOWN], p: u32, r: LiveRegion, n: u32
 }
 
 // The lowest page that is region r's and has an unused place, with its lowest; else the page past the last one and n.
-fn room_known(s: &[u8], known: &mut [u32; KNOWN], r: LiveRegion, n: u32) -> Spot
+fn find_room(s: &[u8], known: &mut [u32; KNOWN], r: LiveRegion, n: u32) -> Spot
     requires { ⌜ (length (now s) ≡ stateBytes) × (n ≤ pageBytes) × Used (now known) (now s) ⌝ }
     ensures { λ x. ⌜ Found (pageOwner (now (s .entry))) (pageMark (now (s .entry))) firstPage pastPage (r .0) n (x .0) (x .1) × Used (now (known .exit)) (now (s .entry)) ⌝ }
 {
     let mut p = Machine::FIRST_PAGE;
     while p < Machine::PAST_PAGE {
-        let j = place_known(s, known, p, r, n);
+        let j = place_for(s, known, p, r, n);
         if j < n {
             return Spot(p, j);
         }
@@ -193,11 +143,11 @@ fn room_known(s: &[u8], known: &mut [u32; KNOWN], r: LiveRegion, n: u32) -> Spot
 }
 
 // What a new object of region r takes, n places to a page: rules' `allocate` for objects of a size with n places (chosen-from, allocate-plain).
-pub fn allocate_known(s: &[u8], known: &mut [u32; KNOWN], r: LiveRegion, n: u32) -> Chosen
+pub fn allocate(s: &[u8], known: &mut [u32; KNOWN], r: LiveRegion, n: u32) -> Chosen
     requires { ⌜ (length (now s) ≡ stateBytes) × (n ≤ pageBytes) × Used (now known) (now s) ⌝ }
     ensures { λ c. ⌜ (c ≡ chosen (view (now (s .entry)) .owner) (view (now (s .entry)) .mark) firstPage firstPage pastPage (r .0) n) × Within pastPage n c × Used (now (known .exit)) (now (s .entry)) ⌝ }
 {
-    let x = room_known(s, known, r, n);
+    let x = find_room(s, known, r, n);
     let p = x.0;
     let j = x.1;
     if p < Machine::PAST_PAGE {

@@ -1,6 +1,5 @@
 -- `frames::add_region` meets its contract, by the definition.
 use mathlib.Core.Path.{refl}
-use Prim.Native.Nat.{_-_}
 use native.Mathlib.Numerals.{add-one}
 use borrow.Author.Needs.{needs}
 use Rattle.frames.proofs.add_region.Statement.{statement}

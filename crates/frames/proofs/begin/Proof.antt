@@ -1,5 +1,4 @@
 -- `frames::begin` meets its contract: what each part reads lies below the frame that is written.
-use Prim.Native.Nat.{_-_}
 use Rattle.frames.specs.Entered.{begun-is}
 use borrow.Author.Needs.{needs}
 use Rattle.frames.proofs.begin.Statement.{statement}

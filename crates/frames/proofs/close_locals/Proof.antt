@@ -1,6 +1,5 @@
 -- `frames::close_locals` meets its contract: the set of the frame's local regions, or none.
 use mathlib.Core.Path.{ap, _∙_}
-use Prim.Native.Nat.{_-_}
 use native.Mathlib.Omega.{arith}
 use Rattle.words.specs.Bytes.{Bytes, byteAt}
 use Rattle.frames.specs.Regions.{noRegions, marked-zero}

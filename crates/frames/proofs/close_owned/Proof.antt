@@ -1,6 +1,5 @@
 -- `frames::close_owned` meets its contract: the set has no region where a page has no owner.
 use mathlib.Core.Path.{sym, _∙_}
-use Prim.Native.Nat.{_-_}
 use Rattle.frames.specs.Left.{from-unowned, word-unowned}
 use borrow.Author.Needs.{needs}
 use Rattle.frames.proofs.close_owned.Statement.{statement}

@@ -1,11 +1,8 @@
 -- `frames::close_page` meets its contract, by the definition: the set has the owner or not.
 use mathlib.Core.Path.{_≡_, refl, sym, subst}
 use mathlib.Core.Bool.{true, false}
-use Prim.Native.Nat.{_-_}
 use lib.ListN.{set}
-use Rattle.rules.specs.State.{putOwner, clearMarks}
 use Rattle.state.specs.Marks.{used-one, used-zero}
-use Rattle.state.specs.Puts.{after}
 use Rattle.pages.specs.Known.{Used, used-closed}
 use Rattle.frames.specs.Left.{closedIf, ownedIn}
 use borrow.Author.Needs.{needs}

@@ -1,6 +1,6 @@
 -- `frames::enter` meets its contract: the writes of its calls, one after the other.
 use mathlib.Core.Path.{_≡_}
-use Prim.Native.Nat.{suc, _+_, _-_}
+use Prim.Native.Nat.{suc, _+_}
 use native.Mathlib.Omega.{arith}
 use Rattle.rules.specs.State.{written}
 use borrow.Author.Needs.{needs}

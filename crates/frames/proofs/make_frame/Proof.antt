@@ -1,5 +1,5 @@
 -- `frames::make_frame` meets its contract: the set of live regions, then the frame, then its local regions; or the frame alone.
-use Prim.Native.Nat.{_+_, _-_}
+use Prim.Native.Nat.{_+_}
 use native.Mathlib.Omega.{arith}
 use native.Mathlib.Numerals.{add-one}
 use Rattle.rules.specs.State.{view}

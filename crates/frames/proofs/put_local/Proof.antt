@@ -1,5 +1,4 @@
 -- `frames::put_local` meets its contract, by what its calls ensure.
-use Prim.Native.Nat.{_-_}
 use borrow.Author.Needs.{needs}
 use Rattle.frames.proofs.put_local.Statement.{statement}
 use Rattle.frames.proofs.put_local.Tie as tie

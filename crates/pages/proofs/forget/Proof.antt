@@ -1,5 +1,4 @@
 -- `pages::forget` meets its contract, by the definition.
-use Prim.Native.Nat.{_-_}
 use Rattle.pages.specs.Known.{forgot-yes, forgot-no}
 use borrow.Author.Needs.{needs}
 use Rattle.pages.proofs.forget.Statement.{statement}

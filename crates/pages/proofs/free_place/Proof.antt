@@ -1,5 +1,4 @@
 -- `pages::free_place` meets its contract: one write.
-use Prim.Native.Nat.{_-_}
 use Rattle.rules.specs.State.{written}
 use borrow.Author.Needs.{needs}
 use Rattle.pages.proofs.free_place.Statement.{statement}

@@ -1,6 +1,6 @@
 -- `pages::grant_page` meets its contract: the first two writes leave the marks.
 use mathlib.Core.Path.{_∙_}
-use Prim.Native.Nat.{_+_, _-_}
+use Prim.Native.Nat.{_+_}
 use native.Mathlib.Numerals.{add-one}
 use Rattle.pages.specs.Places.{grant-written}
 use borrow.Author.Needs.{needs}

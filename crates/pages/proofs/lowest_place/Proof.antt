@@ -1,6 +1,6 @@
 -- `pages::lowest_place` meets its contract: the first byte that is not 255 has the lowest unused place, and no byte before the place known is one.
 use mathlib.Core.Path.{ap}
-use Prim.Native.Nat.{ℕ, _+_, _-_, _*_, _/_}
+use Prim.Native.Nat.{ℕ, _+_, _*_}
 use native.Mathlib.Omega.{arith}
 use Rattle.pages.specs.Places.{place-found, place-past, place-none}
 use Rattle.pages.specs.Known.{used-full, used-none}

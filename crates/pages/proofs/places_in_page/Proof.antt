@@ -1,6 +1,5 @@
 -- `pages::places_in_page` meets its contract, by the definition.
 use mathlib.Core.Path.{refl}
-use Prim.Native.Nat.{_-_}
 use native.Mathlib.Nat.{div-le-self}
 use borrow.Author.Needs.{needs}
 use Rattle.pages.proofs.places_in_page.Statement.{statement}

@@ -1,5 +1,4 @@
 -- `pages::take_place` meets its contract: one write.
-use Prim.Native.Nat.{_-_}
 use Rattle.rules.specs.State.{written}
 use borrow.Author.Needs.{needs}
 use Rattle.pages.proofs.take_place.Statement.{statement}
