@@ -1,12 +1,11 @@
 // Kinds 18 to 20 in code: operations on integers of w bytes, w being 1, 2 or 4. The largest number of a width
-// comes with it as a mask m, so that wrapping is one `and`.
+// comes with it as a mask m, so that wrapping is one `and`. Operations take both in one number v, and take apart what they need.
 ghost use mathlib.Core.Path.{_≡_};
-ghost use mathlib.Core.Bool.{Bool};
 ghost use Prim.Native.Nat.{ℕ, _+_, _-_, _%_, _/_, _*_, _^_, _≤_, _<_};
-ghost use lib.Dec.{ltb, eqb};
+ghost use lib.Dec.{ltb};
 ghost use Rattle.words.specs.Widths.{IsWidth};
-ghost use Rattle.rules.specs.Arithmetic.{value, halt, cut, flag, valueIf, leftBy, rightBy, magnitude, nearestBy, negative, biased, operationOf, operated, signExtended};
-ghost use Rattle.arithmetic.specs.Meaning.{computedOf};
+ghost use Rattle.rules.specs.Arithmetic.{value, cut, flag, valueIf, leftBy, rightBy, magnitude, nearestBy, negative, biased, operationOf, operated, signExtended};
+ghost use Rattle.arithmetic.specs.Meaning.{computedOf, widthIn, maskIn, Sized};
 
 // 256 to the width of an i32, and the lowest i32 that is negative.
 const WORD: u64 = 4294967296;
@@ -23,6 +22,18 @@ fn wide(x: u32) -> u64
     ensures { λ r. ⌜ (r ≡ x) × (r < 2 ^ 32) ⌝ }
 {
     x as u64
+}
+
+fn width_in(v: u64) -> u64
+    ensures { λ r. ⌜ r ≡ widthIn v ⌝ }
+{
+    v / WORD
+}
+
+fn mask_in(v: u64) -> u32
+    ensures { λ r. ⌜ r ≡ maskIn v ⌝ }
+{
+    (v % WORD) as u32
 }
 
 // 256 to the width.
@@ -69,13 +80,13 @@ fn bias(w: u64, x: u32) -> u64
     (wide(x) + m / 2) % m
 }
 
-fn shift_left(w: u64, m: u32, x: u32, y: u32) -> Number
-    requires { ⌜ (IsWidth w) × (m + 1 ≡ 256 ^ w) ⌝ }
-    ensures { λ r. ⌜ computedOf r ≡ leftBy (ltb y (8 * w)) w x y ⌝ }
+fn shift_left(v: u64, x: u32, y: u32) -> Number
+    requires { ⌜ Sized v ⌝ }
+    ensures { λ r. ⌜ computedOf r ≡ leftBy (ltb y (8 * widthIn v)) (widthIn v) x y ⌝ }
 {
     let n = wide(y);
-    if n < bits_of(w) {
-        Number::Is(cut_by(wide(x) << n, m))
+    if n < bits_of(width_in(v)) {
+        Number::Is(cut_by(wide(x) << n, mask_in(v)))
     } else {
         Number::Stop(37)
     }
@@ -89,11 +100,11 @@ fn logical_right(x: u32, y: u32) -> u32
     x >> y
 }
 
-fn shift_right(w: u64, x: u32, y: u32) -> Number
-    requires { ⌜ IsWidth w ⌝ }
-    ensures { λ r. ⌜ computedOf r ≡ rightBy (ltb y (8 * w)) x y ⌝ }
+fn shift_right(v: u64, x: u32, y: u32) -> Number
+    requires { ⌜ Sized v ⌝ }
+    ensures { λ r. ⌜ computedOf r ≡ rightBy (ltb y (8 * widthIn v)) x y ⌝ }
 {
-    if wide(y) < bits_of(w) {
+    if wide(y) < bits_of(width_in(v)) {
         Number::Is(logical_right(x, y))
     } else {
         Number::Stop(37)
@@ -181,33 +192,57 @@ fn remainder(x: u32, y: u32) -> Number
     }
 }
 
-// 256 ^ 4 is added before the cut, so that nothing goes below zero: every range divides it.
-fn subtract(m: u32, x: u32, y: u32) -> u32
-    ensures { λ r. ⌜ ((w : ℕ) → IsWidth w → m + 1 ≡ 256 ^ w → y < 256 ^ w → r ≡ cut w (x + (256 ^ w - y))) ⌝ }
+fn add(v: u64, x: u32, y: u32) -> u32
+    requires { ⌜ Sized v ⌝ }
+    ensures { λ r. ⌜ r ≡ cut (widthIn v) (x + y) ⌝ }
 {
-    cut_by(wide(x) + (WORD - wide(y)), m)
+    cut_by(wide(x) + wide(y), mask_in(v))
 }
 
-// Operation op on two integers of w bytes, of which m is the largest.
-pub fn compute(op: u32, w: u64, m: u32, x: u32, y: u32) -> Number
-    requires { ⌜ (IsWidth w) × (m + 1 ≡ 256 ^ w) × (y < 256 ^ w) ⌝ }
-    ensures { λ r. ⌜ computedOf r ≡ operated (operationOf op) w x y ⌝ }
+// 256 ^ 4 is added before the cut, so that nothing goes below zero: every range divides it.
+fn subtract(v: u64, x: u32, y: u32) -> u32
+    requires { ⌜ Sized v × (y < 256 ^ widthIn v) ⌝ }
+    ensures { λ r. ⌜ r ≡ cut (widthIn v) (x + (256 ^ widthIn v - y)) ⌝ }
+{
+    cut_by(wide(x) + (WORD - wide(y)), mask_in(v))
+}
+
+fn multiply(v: u64, x: u32, y: u32) -> u32
+    requires { ⌜ Sized v ⌝ }
+    ensures { λ r. ⌜ r ≡ cut (widthIn v) (x * y) ⌝ }
+{
+    cut_by(wide(x) * wide(y), mask_in(v))
+}
+
+// The signed order.
+fn less(v: u64, x: u32, y: u32) -> bool
+    requires { ⌜ Sized v ⌝ }
+    ensures { λ r. ⌜ r ≡ ltb (biased (widthIn v) x) (biased (widthIn v) y) ⌝ }
+{
+    let w = width_in(v);
+    bias(w, x) < bias(w, y)
+}
+
+// Operation op on two integers of the width that v has.
+pub fn compute(op: u32, v: u64, x: u32, y: u32) -> Number
+    requires { ⌜ Sized v × (y < 256 ^ widthIn v) ⌝ }
+    ensures { λ r. ⌜ computedOf r ≡ operated (operationOf op) (widthIn v) x y ⌝ }
 {
     match op {
-        0 => Number::Is(cut_by(wide(x) + wide(y), m)),
-        1 => Number::Is(subtract(m, x, y)),
-        2 => Number::Is(cut_by(wide(x) * wide(y), m)),
+        0 => Number::Is(add(v, x, y)),
+        1 => Number::Is(subtract(v, x, y)),
+        2 => Number::Is(multiply(v, x, y)),
         3 => Number::Is(x & y),
         4 => Number::Is(x | y),
         5 => Number::Is(x ^ y),
-        6 => shift_left(w, m, x, y),
-        7 => shift_right(w, x, y),
+        6 => shift_left(v, x, y),
+        7 => shift_right(v, x, y),
         8 => quotient(x, y),
         9 => remainder(x, y),
         10 => nearest(x, y),
         11 => flag_of(x == y),
         12 => flag_of(x < y),
-        13 => flag_of(bias(w, x) < bias(w, y)),
+        13 => flag_of(less(v, x, y)),
         _ => Number::Stop(0),
     }
 }

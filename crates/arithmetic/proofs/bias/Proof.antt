@@ -1,5 +1,4 @@
 -- `arithmetic::bias` meets its contract, by the definition.
-use Prim.Native.Nat.{_-_}
 use Rattle.rules.specs.Arithmetic.{biased}
 use borrow.Author.Needs.{needs}
 use Rattle.arithmetic.proofs.bias.Statement.{statement}

@@ -1,5 +1,4 @@
 -- `arithmetic::bits_of` meets its contract, since a width is at most 4.
-use Prim.Native.Nat.{_-_}
 use native.Mathlib.Omega.{arith}
 use Rattle.arithmetic.specs.Laws.{width-small}
 use Rattle.arithmetic.proofs.bits_of.Statement.{statement}

@@ -1,39 +1,20 @@
 -- `arithmetic::compute` meets its contract: in each arm the number of the operation is known, and the definition computes.
-use mathlib.Core.Path.{refl, ap, _∙_}
-use Prim.Native.Nat.{_-_}
+use mathlib.Core.Path.{refl, ap}
 use native.Mathlib.Omega.{arith}
 use Rattle.rules.specs.Arithmetic.{value, operationOf, operated}
-use Rattle.arithmetic.specs.Laws.{below, operation-none, not-next}
+use Rattle.arithmetic.specs.Laws.{operation-none, not-next}
 use borrow.Author.Needs.{needs}
 use Rattle.arithmetic.proofs.compute.Statement.{statement}
 use Rattle.arithmetic.proofs.compute.Tie as tie
 
-wide-requires : tie.Need-wide-requires
-wide-requires c κs = search needs
-
-wide-requires-2 : tie.Need-wide-requires-2
-wide-requires-2 c κs = search needs
-
-add-cut-by : tie.Need-add-cut-by
-add-cut-by c = search needs
-
-cut-by-requires : tie.Need-cut-by-requires
-cut-by-requires c κs = search needs
+add-requires : tie.Need-add-requires
+add-requires c κs = search needs
 
 subtract-requires : tie.Need-subtract-requires
 subtract-requires c κs = search needs
 
-wide-requires-3 : tie.Need-wide-requires-3
-wide-requires-3 c κs = search needs
-
-wide-requires-4 : tie.Need-wide-requires-4
-wide-requires-4 c κs = search needs
-
-mul-cut-by : tie.Need-mul-cut-by
-mul-cut-by c = record { fits = below 32 (search needs) (search needs) }
-
-cut-by-requires-2 : tie.Need-cut-by-requires-2
-cut-by-requires-2 c κs = search needs
+multiply-requires : tie.Need-multiply-requires
+multiply-requires c κs = search needs
 
 shift-left-requires : tie.Need-shift-left-requires
 shift-left-requires c κs = search needs
@@ -56,26 +37,23 @@ flag-of-requires c κs = search needs
 flag-of-requires-2 : tie.Need-flag-of-requires-2
 flag-of-requires-2 c κs = search needs
 
-bias-requires : tie.Need-bias-requires
-bias-requires c κs = search needs
-
-bias-requires-2 : tie.Need-bias-requires-2
-bias-requires-2 c κs = search needs
+less-requires : tie.Need-less-requires
+less-requires c κs = search needs
 
 flag-of-requires-3 : tie.Need-flag-of-requires-3
 flag-of-requires-3 c κs = search needs
 
 returns : tie.Need-returns
 unfolding operationOf operated
-returns c = let p = c .before .before .before .before .pre in rw (c .before .before .before .match .keys1) (ap value (c .cut-by .ensures _ (p .0) (p .1) ∙ cc))
+returns c = rw (c .before .match .keys1) (ap value (c .add .ensures))
 
 returns-2 : tie.Need-returns-2
 unfolding operationOf operated
-returns-2 c = let p = c .before .before .pre in rw (c .before .match .keys2) (ap value (c .subtract .ensures _ (p .0) (p .1) (p .2)))
+returns-2 c = rw (c .before .match .keys2) (ap value (c .subtract .ensures))
 
 returns-3 : tie.Need-returns-3
 unfolding operationOf operated
-returns-3 c = let p = c .before .before .before .before .pre in rw (c .before .before .before .match .keys3) (ap value (c .cut-by2 .ensures _ (p .0) (p .1) ∙ cc))
+returns-3 c = rw (c .before .match .keys3) (ap value (c .multiply .ensures))
 
 returns-4 : tie.Need-returns-4
 unfolding operationOf operated
@@ -119,7 +97,7 @@ returns-13 c = rw (c .before .match .keys13) (cc)
 
 returns-14 : tie.Need-returns-14
 unfolding operationOf operated
-returns-14 c = rw (c .before .before .before .match .keys14) (cc)
+returns-14 c = rw (c .before .before .match .keys14) (cc)
 
 returns-15 : tie.Need-returns-15
 unfolding operated
@@ -129,15 +107,9 @@ pub compute-spec : {M : Type 1} → statement M
 compute-spec =
     tie.close
     (tie.spec
-    wide-requires
-    wide-requires-2
-    add-cut-by
-    cut-by-requires
+    add-requires
     subtract-requires
-    wide-requires-3
-    wide-requires-4
-    mul-cut-by
-    cut-by-requires-2
+    multiply-requires
     shift-left-requires
     shift-right-requires
     quotient-requires
@@ -145,8 +117,7 @@ compute-spec =
     nearest-requires
     flag-of-requires
     flag-of-requires-2
-    bias-requires
-    bias-requires-2
+    less-requires
     flag-of-requires-3
     returns
     returns-2

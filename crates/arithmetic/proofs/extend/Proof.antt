@@ -1,6 +1,6 @@
 -- `arithmetic::extend` meets its contract, by the definition.
 use mathlib.Core.Path.{_∙_}
-use Prim.Native.Nat.{_-_, _*_, _^_, _<_, _≤_}
+use Prim.Native.Nat.{_*_, _^_, _<_, _≤_}
 use native.Mathlib.Omega.{arith}
 use borrow.Author.Tests.{lt-ltb, le-ltb}
 use Rattle.rules.specs.Arithmetic.{signExtended}

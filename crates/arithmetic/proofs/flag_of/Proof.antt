@@ -1,5 +1,4 @@
 -- `arithmetic::flag_of` meets its contract, by the definition.
-use Prim.Native.Nat.{_-_}
 use Rattle.rules.specs.Arithmetic.{flag}
 use Rattle.arithmetic.proofs.flag_of.Statement.{statement}
 use Rattle.arithmetic.proofs.flag_of.Tie as tie

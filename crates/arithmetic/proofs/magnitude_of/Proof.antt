@@ -1,5 +1,4 @@
 -- `arithmetic::magnitude_of` meets its contract, by the definition.
-use Prim.Native.Nat.{_-_}
 use native.Mathlib.Omega.{arith}
 use borrow.Author.Tests.{lt-ltb, le-ltb}
 use Rattle.rules.specs.Arithmetic.{magnitude}

@@ -1,5 +1,5 @@
 -- `arithmetic::nearest` meets its contract: the divisor has a magnitude above zero, and the quotient is at most 256 to the 4.
-use Prim.Native.Nat.{_-_, _<_, _≤_}
+use Prim.Native.Nat.{_<_, _≤_}
 use native.Mathlib.Omega.{arith}
 use borrow.Author.Tests.{lt-ltb, le-ltb}
 use Rattle.rules.specs.Arithmetic.{nearestOf, signedBy, nearestBy}

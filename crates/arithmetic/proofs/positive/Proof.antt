@@ -1,5 +1,4 @@
 -- `arithmetic::positive` meets its contract, by the definition.
-use Prim.Native.Nat.{_-_}
 use borrow.Author.Tests.{lt-ltb, le-ltb}
 use Rattle.rules.specs.Arithmetic.{valueIf}
 use borrow.Author.Needs.{needs}

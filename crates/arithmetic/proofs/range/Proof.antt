@@ -1,5 +1,4 @@
 -- `arithmetic::range` meets its contract: 256 to each of the three widths, by computation.
-use Prim.Native.Nat.{_-_}
 use native.Mathlib.Omega.{arith}
 use Rattle.arithmetic.specs.Laws.{width-left}
 use Rattle.arithmetic.proofs.range.Statement.{statement}
