@@ -95,7 +95,7 @@ fn best(file: &[u8], check: impl Fn(&[u8]) -> Answer) -> Duration {
 }
 
 fn main() {
-    println!("blocks  records   library ns/record   interpreter ns/record   ratio");
+    println!("blocks  records   library ns/record  ns/byte   interpreter ns/record   ratio");
     for blocks in [1, 4, 16, 64] {
         let file = module(blocks);
         let answer = host::check(&file);
@@ -106,7 +106,10 @@ fn main() {
         let library = nanoseconds(best(&file, library_check));
         let interpreter = nanoseconds(best(&file, host::check));
         let ratio = library / interpreter;
+        let byte = library * records as f64 / file.len() as f64;
         let blocks = file.len() / 512;
-        println!("{blocks:6}  {records:7}   {library:17.1}   {interpreter:21.1}   {ratio:5.2}");
+        println!(
+            "{blocks:6}  {records:7}   {library:17.1}  {byte:7.1}   {interpreter:21.1}   {ratio:5.2}"
+        );
     }
 }
