@@ -1,7 +1,7 @@
 -- The verdict of refusals 5 to 8, rule by rule from the last to the first: what is left of it where the rules before have passed.
 -- Assumes nothing.
 use mathlib.Core.Path.{_≡_, refl, sym, ap, _∙_}
-use mathlib.Core.List.{List, [], _∷_, _++_}
+use mathlib.Core.List.{[], _∷_, _++_}
 use Prim.Native.Nat.{ℕ, _-_, _<_, _≤_}
 use Rattle.words.specs.Bytes.{Bytes, listOf}
 use borrow.Author.Tests.{lt-ltb, le-ltb}
@@ -15,7 +15,7 @@ use Rattle.rules.specs.Verdict.{termStage, structStage, functionStage, instruct
 use Rattle.rules.specs.declared.Verdict.{Verdict}
 use Rattle.rules.specs.declared.Verdict.the-variants as verdicts
 use Rattle.typing.specs.Stages.{verdict-append}
-use Rattle.records.specs.Outcome.{andThen, outcome, verdict-outcome}
+use Rattle.records.specs.Outcome.{andThen, verdict-outcome}
 use Rattle.instructions.specs.Scan.{typedFrom}
 
 -- one stage, and v behind it

@@ -1,12 +1,11 @@
 -- Refusal 6 as the code tests it: document 01, "6 function: a register or return that is not primitive; a region type, register or
 -- return using regions beyond its scope; function 0 ..". Each test is the decision's answer. Assumes nothing.
 use mathlib.Core.Path.{_≡_, refl, sym, ap, ap₂, _∙_}
-use mathlib.Core.Bool.{Bool, true, false, not, cond, _&&_, _||_}
-use Prim.Native.Nat.{ℕ, _+_, _<_, _≤_}
-use native.Mathlib.Decide.{ℕ-discrete}
-use lib.Dec.{ltb, eqb}
+use mathlib.Core.Bool.{Bool, true, false, not, _&&_, _||_}
+use Prim.Native.Nat.{ℕ}
+use lib.Dec.{eqb}
 use Rattle.words.specs.First.{allBelow}
-use Rattle.words.specs.Decide.{does, decBoth, decAll, decImp}
+use Rattle.words.specs.Decide.{does}
 use Rattle.rules.specs.Types.{int, decTree, decUses, decPrimitive}
 use Rattle.rules.specs.Module.{Function, Module, regions}
 use Rattle.rules.specs.WellTyped.{scopeOf, decFunction, decEntry}

@@ -1,9 +1,9 @@
 -- A function of the file by the place of its record 7: which records say what of it. Document 01, "The module file". And what
 -- refusals 1 to 4 have established where the rules above them are tested. Assumes nothing.
 use mathlib.Core.Path.{_≡_, refl, sym, ap, _∙_}
-use mathlib.Core.Bool.{Bool, true, false, cond}
-use mathlib.Core.List.{List, [], _∷_, _++_}
-use Prim.Native.Nat.{ℕ, zero, suc, _+_, _-_, _*_, _/_, _%_, _^_, _<_, _≤_}
+use mathlib.Core.Bool.{cond}
+use mathlib.Core.List.{List}
+use Prim.Native.Nat.{ℕ, zero, suc, _+_, _*_, _/_, _%_, _^_, _<_, _≤_}
 use native.Mathlib.Numerals.{add-one}
 use native.Mathlib.Omega.{arith}
 use lib.Dec.{ltb}
@@ -11,16 +11,15 @@ use lib.ListN.{length, getD}
 use Rattle.words.specs.Bytes.{Bytes}
 use Rattle.rules.specs.Limits.{mostEntries, mostFunctions, blockBytes, mostBlocks}
 use Rattle.rules.specs.File.{records, recordOf, entryOf, regionsOf, returnOf, parametersOf, instructionsOf}
-use Rattle.rules.specs.Module.{Function, Module, Instruction, regions}
-use Rattle.rules.specs.Walk.{Scan, scan, nextScan, whole}
+use Rattle.rules.specs.Module.{Function, Instruction, regions}
+use Rattle.rules.specs.Walk.{whole}
 use Rattle.rules.specs.Decode.{treesOf, registersAt, codeAt, after, places, codePlaces, codeOf, functionOf, moduleOf, startOf, instructionAt}
 use Rattle.rules.specs.WellTyped.{scopeOf}
 use Rattle.rules.specs.declared.Record.{Record}
 use Rattle.walk.specs.Tables.{startsOf, start-below}
-use Rattle.walk.specs.Scan.{callees}
 use Rattle.walk.specs.Code.{registers-far, skip-far}
 use Rattle.typing.specs.Walk.{skip, skip-suc, place-at}
-use Rattle.terms.specs.Extents.{Terms, Counted}
+use Rattle.terms.specs.Extents.{Counted}
 use Rattle.typing.specs.Lists.{getD-past}
 
 -- what refusals 1 to 4 have established of file f: n terms, k structs, c functions, and where the functions start

@@ -1,23 +1,23 @@
 -- Refusal 8 as the code tests it: document 01, "8 the last is neither 31 nor 34". A kind above 34 was refused with 4; here it reads as
 -- 34. Assumes nothing.
 use mathlib.Core.Path.{_≡_, refl, sym, ap, _∙_}
-use mathlib.Core.Bool.{Bool, true, false, cond, _||_}
+use mathlib.Core.Bool.{Bool, false, cond, _||_}
 use Prim.Native.Nat.{ℕ, _+_, _-_, _<_, _≤_}
 use native.Mathlib.Omega.{arith}
-use lib.Dec.{ltb, leb, eqb}
+use lib.Dec.{leb, eqb}
 use lib.ListN.{getD}
 use borrow.Author.Tests.{eq-eqb, ne-eqb, lt-leb, le-leb}
 use Rattle.words.specs.Bytes.{Bytes}
 use Rattle.words.specs.Choose.{cond-split, split-eq, split-lt, neither-of, left-of, right-of}
 use Rattle.words.specs.Decide.{does}
-use Rattle.rules.specs.File.{recordOf, parametersOf, Group, arithmetic, memory, control, groupOf, kindCall, firstMemory, firstControl}
-use Rattle.rules.specs.Module.{Module, Instruction, call}
-use Rattle.rules.specs.Decode.{callOf, arithmeticOf, memoryOf, controlOf, byGroup, instructionOf, codeOf, moduleOf, startOf, instructionAt}
+use Rattle.rules.specs.File.{recordOf, parametersOf, Group, groupOf, kindCall, firstMemory, firstControl}
+use Rattle.rules.specs.Module.{Instruction}
+use Rattle.rules.specs.Decode.{callOf, arithmeticOf, memoryOf, controlOf, byGroup, instructionOf, codeOf, moduleOf, startOf}
 use Rattle.rules.specs.Walk.{whole}
 use Rattle.rules.specs.WellTyped.{decLast}
 use Rattle.rules.specs.Verdict.{lastTest}
 use Rattle.rules.specs.declared.Record.{Record}
-use Rattle.functions.specs.Functions.{functionAt, function-at, instructionIn, placeIn, code-at, length-at}
+use Rattle.functions.specs.Functions.{functionAt, function-at, instructionIn, placeIn, code-at}
 
 -- a record of this kind ends a function
 abbrev pub ends : ℕ → Bool

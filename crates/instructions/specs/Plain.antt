@@ -1,21 +1,17 @@
 -- Types as they are written, for code that asks for types under a substitution: the regions of a function are fewer than eight, so that
 -- eight bytes that stand for themselves put each for itself. Assumes nothing but that, where it says so.
 use mathlib.Core.Path.{_≡_, refl, sym, ap, ap₂, _∙_, subst}
-use mathlib.Core.Bool.{Bool, true, false, _&&_}
-use mathlib.Core.Logic.{_↔_}
+use mathlib.Core.Bool.{Bool, _&&_}
 use mathlib.Core.List.{List, [], _∷_, map}
-use Prim.Native.Nat.{ℕ, zero, suc, _<_, _≤_}
+use Prim.Native.Nat.{ℕ, zero, suc, _<_}
 use native.Mathlib.Omega.{arith}
 use lib.Dec.{ltb, eqb}
-use lib.ListN.{length, getD}
 use borrow.Author.Tests.{ltb-true, eqb-true}
 use Rattle.words.specs.Bytes.{Bytes}
-use Rattle.words.specs.Choose.{both}
 use Rattle.words.specs.Decide.{does, Each, none, more}
-use Rattle.rules.specs.Types.{variable, Variable, region, Tree, int, ptr, arr, struct, form, inner, regionOf, sub, arg, decTree, Uses, in-int, in-ptr, in-arr, in-struct}
+use Rattle.rules.specs.Types.{variable, Variable, region, Tree, ptr, arr, struct, form, inner, regionOf, sub, decTree, Uses, in-int, in-ptr, in-arr, in-struct}
 use Rattle.rules.specs.Module.{Module, Function, regions}
 use Rattle.rules.specs.Flat.{flat, decRun, decSame}
-use Rattle.rules.specs.Decode.{moduleOf}
 use Rattle.terms.specs.Compare.{under, byteUnder, under-is}
 use Rattle.judgment.specs.Registers.{guarded, isPointer, together, pointer-reads, together-reads}
 use Rattle.judgment.specs.Rules.{wholeTest}

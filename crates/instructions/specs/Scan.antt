@@ -1,18 +1,15 @@
 -- The first instruction of a function that breaks its rule, and the first function that has one, as stages of the verdict. Assumes
 -- nothing.
 use mathlib.Core.Path.{_≡_, refl, sym, ap, _∙_}
-use mathlib.Core.Bool.{Bool, true, false}
-use mathlib.Core.List.{List, [], _∷_}
-use Prim.Native.Nat.{ℕ, zero, suc, _+_, _-_, _<_, _≤_}
-use native.Mathlib.Numerals.{add-one}
+use Prim.Native.Nat.{ℕ, suc, _<_, _≤_}
 use native.Mathlib.Omega.{arith}
-use Rattle.words.specs.Bytes.{Bytes, listFrom, listOf}
+use Rattle.words.specs.Bytes.{Bytes, listFrom}
 use Rattle.words.specs.First.{first}
 use Rattle.words.specs.Decide.{does}
 use Rattle.rules.specs.Module.{Function}
-use Rattle.rules.specs.Stages.{Stage, failure}
+use Rattle.rules.specs.Stages.{failure}
 use Rattle.rules.specs.Decision.{decTyped}
-use Rattle.rules.specs.Decode.{moduleOf, startOf, instructionAt}
+use Rattle.rules.specs.Decode.{moduleOf, startOf}
 use Rattle.rules.specs.Verdict.{instructionTest, instructionStage}
 use Rattle.functions.specs.Functions.{functionAt, function-at, instructionIn, placeIn, place-in, code-at}
 use Rattle.records.specs.Outcome.{outcome, passes, refuses}

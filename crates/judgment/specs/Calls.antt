@@ -1,9 +1,9 @@
 -- Kind 33 as the code tests it: document 01, "33 calls function b for regions d (a byte each), result into a; record 35 follows with
 -- argument registers .. Region, argument and result types equal the callee's with the regions put in". Assumes nothing.
-use mathlib.Core.Path.{_≡_, refl, sym, ap, ap₂, _∙_, subst}
+use mathlib.Core.Path.{_≡_, refl, sym, ap, _∙_, subst}
 use mathlib.Core.Bool.{Bool, true, false, _&&_}
 use mathlib.Core.Logic.{_↔_, ⊎-elim}
-use mathlib.Core.List.{List, [], _∷_, map}
+use mathlib.Core.List.{List, _∷_, map}
 use Prim.Native.Nat.{ℕ, zero, suc, _+_, _<_, _≤_}
 use native.Mathlib.Omega.{arith}
 use lib.Dec.{ltb}
@@ -15,13 +15,12 @@ use Rattle.words.specs.Choose.{lt-reads, lt-or-le}
 use Rattle.words.specs.First.{allBelow}
 use Rattle.words.specs.FirstLaws.{all-as}
 use Rattle.words.specs.Decide.{does}
-use Rattle.rules.specs.File.{recordOf, byteOfD, entryOf, parametersOf}
-use Rattle.rules.specs.Types.{variable, Variable, Region, region, nowhere, Tree, sub, arg, decTree}
-use Rattle.rules.specs.Module.{Module, Function, regions, argument, Instruction, call}
+use Rattle.rules.specs.File.{recordOf, byteOfD, entryOf}
+use Rattle.rules.specs.Types.{variable, Variable, region, nowhere, Tree, sub, arg, decTree}
+use Rattle.rules.specs.Module.{Function, regions, argument, Instruction, call}
 use Rattle.rules.specs.Typing.{_⊢_∶_, Typed, t-call}
 use Rattle.rules.specs.Decision.{decTyped}
 use Rattle.rules.specs.Decode.{regionBytes, callOf, moduleOf, startOf}
-use Rattle.rules.specs.Walk.{whole}
 use Rattle.rules.specs.declared.Record.{Record}
 use Rattle.terms.specs.Heads.{digit}
 use Rattle.terms.specs.HeadLaws.{digit-byte}

@@ -1,10 +1,10 @@
 -- The instruction at a record by its kind: in each range one instruction for each kind, and what is left over reads as the last of the
 -- range (such a kind was refused with 4). Assumes nothing.
-use mathlib.Core.Path.{_≡_, refl, sym, ap, _∙_}
-use mathlib.Core.Bool.{Bool, true, false, cond}
+use mathlib.Core.Path.{_≡_, ap, _∙_}
+use mathlib.Core.Bool.{cond}
 use Prim.Native.Nat.{ℕ, _+_, _<_, _≤_}
 use native.Mathlib.Omega.{arith}
-use lib.Dec.{ltb, eqb}
+use lib.Dec.{ltb}
 use lib.ListN.{getD}
 use Rattle.words.specs.Bytes.{Bytes}
 use Rattle.words.specs.Choose.{cond-lt, cond-nlt}
@@ -12,7 +12,6 @@ use Rattle.rules.specs.File.{recordOf, parametersOf, firstMemory, firstControl,
 use Rattle.rules.specs.Module.{Instruction}
 use Rattle.rules.specs.Decode.{callOf, arithmeticOf, memoryOf, controlOf, byGroup, instructionOf, codeOf}
 use Rattle.rules.specs.Walk.{whole}
-use Rattle.rules.specs.declared.Record.{Record}
 use Rattle.functions.specs.Functions.{instructionIn}
 
 -- the call at record r, where it is one

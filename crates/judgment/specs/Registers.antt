@@ -1,16 +1,16 @@
 -- What a typing rule asks of a function's registers, as tests that the code makes, and how each reads. Document 01, "Typing the
 -- instructions". Assumes nothing.
-use mathlib.Core.Path.{_≡_, refl, sym, ap, ap₂, _∙_, subst}
+use mathlib.Core.Path.{_≡_, refl, sym, ap, _∙_}
 use mathlib.Core.Bool.{Bool, true, false, _&&_, _||_}
-use mathlib.Core.Logic.{_⊎_, inl, inr, _↔_}
-use Prim.Native.Nat.{ℕ, _<_, _≤_}
+use mathlib.Core.Logic.{_⊎_, _↔_}
+use Prim.Native.Nat.{ℕ, _<_}
 use native.Mathlib.Omega.{arith}
-use lib.Dec.{ltb, leb, eqb}
+use lib.Dec.{ltb, eqb}
 use borrow.Author.Tests.{eqb-true}
 use Rattle.words.specs.Choose.{and-reads, or-reads, lt-reads, eq-reads}
 use Rattle.words.specs.Decide.{does, does-true}
-use Rattle.rules.specs.Types.{variable, Variable, Region, region, Tree, int, ptr, arr, struct, form, numberOf, inner, regionOf, decTree}
-use Rattle.rules.specs.Module.{Function, regions}
+use Rattle.rules.specs.Types.{variable, Variable, region, Tree, int, ptr, arr, struct, form, numberOf, inner, regionOf, decTree}
+use Rattle.rules.specs.Module.{Function}
 use Rattle.rules.specs.Typing.{_⊢_∶_}
 use Rattle.typing.specs.Tests.{true-does}
 use Rattle.words.specs.Bytes.{Bytes}

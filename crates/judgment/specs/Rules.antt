@@ -1,5 +1,5 @@
 -- Each typing rule as the code tests it is the decision's answer. Document 01, "Typing the instructions", in its order. Assumes nothing.
-use mathlib.Core.Path.{_≡_, refl, sym, ap, ap₂, _∙_, subst}
+use mathlib.Core.Path.{_≡_, refl, sym, ap, _∙_, subst}
 use mathlib.Core.Bool.{Bool, true, false, _&&_, _||_}
 use mathlib.Core.Logic.{_⊎_, inl, inr, _↔_}
 use Prim.Native.Nat.{ℕ, _^_, _<_, _≤_}
@@ -8,13 +8,13 @@ use lib.Dec.{ltb, leb, eqb}
 use borrow.Author.Tests.{lt-ltb, le-ltb, ne-eqb}
 use Rattle.words.specs.Choose.{lt-reads, le-reads, eq-reads}
 use Rattle.words.specs.Decide.{does}
-use Rattle.rules.specs.Types.{variable, Variable, Tree, int, ptr, arr, form, numberOf, inner, regionOf, decTree}
-use Rattle.rules.specs.Module.{Module, Function, regions, Instruction, constant, copy, operate, zeroExtend, signExtend, address, check, field, index, load, store, new, free, input, output, jump, branch, return}
+use Rattle.rules.specs.Types.{variable, Variable, Tree, int, ptr, form, numberOf, inner, regionOf, decTree}
+use Rattle.rules.specs.Module.{Module, Function, regions, constant, copy, operate, zeroExtend, signExtend, address, check, field, index, load, store, new, free, input, output, jump, branch, return}
 use Rattle.rules.specs.Flat.{Run, Same, decRun, decSame, flat}
 use Rattle.rules.specs.Operands.{signedQuotient, lastOperation}
 use Rattle.rules.specs.Typing.{_⊢_∶_, Typed, t-constant, t-copy, t-operate, t-quotient, t-compare, t-zeroExtend, t-signExtend, t-address, t-checkInteger, t-checkPointer, t-field, t-index, t-load, t-store, t-new, t-free, t-input, t-output, t-jump, t-branch, t-return}
 use Rattle.rules.specs.Decision.{decTyped}
-use Rattle.judgment.specs.Registers.{both-reads, one-reads, does-reads, read-as, decided, int-of, ptr-of, arr-of, isRegister, isInteger, isPointer, hasWidth, sameTypes, pointsTo, together, register-reads, integer-reads, pointer-reads, width-reads, same-reads, points-reads, together-reads}
+use Rattle.judgment.specs.Registers.{both-reads, one-reads, does-reads, decided, ptr-of, arr-of, isRegister, isInteger, isPointer, hasWidth, sameTypes, pointsTo, together, register-reads, integer-reads, pointer-reads, width-reads, same-reads, points-reads, together-reads}
 
 -- operation o on b gives the type of a
 unfoldable pub operated : Function → ℕ → ℕ → ℕ → Bool

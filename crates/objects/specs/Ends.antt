@@ -1,5 +1,5 @@
 -- "marks beyond the last place of a page" are zero, page by page. Assumes nothing.
-use mathlib.Core.Path.{_≡_, refl, sym, ap, subst, _∙_}
+use mathlib.Core.Path.{_≡_, sym, ap, subst, _∙_}
 use mathlib.Core.Bool.{Bool, _||_, _&&_}
 use mathlib.Core.Logic.{_≢_, inl, inr, ⊎-elim}
 use Prim.Native.Nat.{ℕ, suc, _+_, _-_, _*_, _/_, _%_, _<_, _≤_}
@@ -19,7 +19,7 @@ use Rattle.rules.specs.StateTest.{MarksEnd}
 use Rattle.state.specs.Reads.{mark-is}
 use Rattle.state.specs.Marks.{mark-byte}
 use Rattle.stack.specs.Tells.{Tells, tells-map, tells-or, tells-and, tells-le, tells-eq}
-use Rattle.shape.specs.Zeros.{ZeroFrom, Zero}
+use Rattle.shape.specs.Zeros.{Zero}
 use Rattle.objects.specs.Homes.{regionTree}
 
 -- a page has r places for objects of size z

@@ -3,18 +3,16 @@
 use mathlib.Core.Path.{_≡_, refl, sym, ap, _∙_}
 use mathlib.Core.Bool.{Bool, true, false, cond, _&&_}
 use mathlib.Core.Logic.{_≢_}
-use Prim.Native.Nat.{ℕ, zero, suc, pred, _+_, _-_, _*_, _/_, _%_, _<_, _≤_}
+use Prim.Native.Nat.{ℕ, zero, suc, _+_, _-_, _*_, _/_, _%_, _<_, _≤_}
 use native.Mathlib.Nat.{mul-suc, mul-comm}
 use native.Mathlib.Omega.{arith}
 use lib.Dec.{eqb, ltb, leb}
-use lib.ListN.{getD}
-use borrow.Author.Tests.{eq-eqb, ne-eqb, lt-ltb, le-ltb, le-leb, lt-leb}
+use borrow.Author.Tests.{eq-eqb, ne-eqb, lt-ltb, le-leb, lt-leb}
 use Rattle.words.specs.Bytes.{Bytes}
 use Rattle.words.specs.Choose.{cond-split}
 use Rattle.rules.specs.Limits.{pageBytes}
 use Rattle.rules.specs.File.{recordOf, entryOf}
 use Rattle.rules.specs.Types.{live, Tree, int}
-use Rattle.rules.specs.Module.{Module}
 use Rattle.rules.specs.Flat.{flat, flatWith, size}
 use Rattle.rules.specs.Decode.{moduleOf, functionOf, startOf}
 use Rattle.rules.specs.State.{view, pagePlace, pageOwner, frameFunction, frameMap}

@@ -1,35 +1,31 @@
 -- The primitive at a position, as the code finds it: through arrays, structs and fields, a substitution carried along.
 -- Assumes nothing.
-use mathlib.Core.Path.{_≡_, refl, sym, ap, ap₂, _∙_, subst}
-use mathlib.Core.Logic.{_⊎_, inl, inr, ⊎-elim}
+use mathlib.Core.Path.{_≡_, refl, sym, ap, _∙_, subst}
+use mathlib.Core.Logic.{⊎-elim}
 use mathlib.Core.Bool.{cond}
-use mathlib.Core.List.{List, [], _∷_, map}
+use mathlib.Core.List.{[], _∷_, map}
 use Prim.Native.Nat.{ℕ, zero, suc, _+_, _-_, _*_, _/_, _%_, _≤_, _<_}
-use native.Mathlib.Nat.{add-zero, zero-add, add-assoc, mul-le-mul-right, div-lt-iff-lt-mul, div-add-mod', mod-lt, mul-comm}
-use native.Mathlib.Numerals.{add-one}
+use native.Mathlib.Nat.{add-zero, mul-le-mul-right, div-lt-iff-lt-mul, div-add-mod', mod-lt}
 use native.Mathlib.Omega.{arith}
 use lib.Dec.{ltb}
-use lib.ListN.{length, getD, length-map, List·getD-append, List·getD-map, List·getD-eq-default}
+use lib.ListN.{length, getD, List·getD-append, List·getD-map, List·getD-eq-default}
 use lib.Seq.{getD-append-add}
-use Rattle.words.specs.Bytes.{Bytes, AllBytes, listOf}
+use Rattle.words.specs.Bytes.{Bytes}
 use Rattle.words.specs.ByteLaws.{getD-listOf, listOf-past}
 use Rattle.words.specs.Choose.{cond-lt, cond-nlt, lt-or-le}
-use Rattle.rules.specs.File.{recordOf}
-use Rattle.rules.specs.Types.{RegionKind, variable, Region, Variable, region, Tree, int, ptr, arr, struct, sub, arg, nowhere}
-use Rattle.rules.specs.Flat.{Placed, at, off, type, Layout, count, single, none, empty, moved, packed, beside, copiesOf, copies, placedIn, subLayout, flatWith, fieldsWith, layouts}
+use Rattle.rules.specs.Types.{RegionKind, variable, Region, Variable, region, int, sub, arg, nowhere}
+use Rattle.rules.specs.Flat.{Placed, at, off, Layout, count, single, moved, packed, beside, copiesOf, placedIn, subLayout, flatWith, fieldsWith, layouts}
 use Rattle.rules.specs.Decode.{moduleOf}
 use Rattle.layout.specs.Lists.{getD-map}
 use Rattle.layout.specs.Types.{sub-sub}
-use Rattle.layout.specs.Prims.{nth, moved-moved, moved-zero, placed-moved, placed-off, count-packed, count-copiesOf, size-copiesOf, beside-sized, beside-none, copies-sized, copies-none, copies-fit, subLayout-size, count-sub}
-use Rattle.terms.specs.declared.Extent.{Extent}
-use Rattle.terms.specs.declared.Head.{Head}
+use Rattle.layout.specs.Prims.{nth, moved-moved, moved-zero, placed-moved, count-packed, count-copiesOf, size-copiesOf, beside-sized, beside-none, copies-sized, copies-fit, subLayout-size, count-sub}
 use Rattle.terms.specs.declared.Head.the-variants.{Int, Ptr, Arr, Struct}
-use Rattle.terms.specs.Heads.{digit, argsOf, placeOf, treeAt, headOf, grow}
-use Rattle.terms.specs.HeadLaws.{tree-step, place-le, Fair, fair}
+use Rattle.terms.specs.Heads.{digit, argsOf, treeAt, headOf, grow}
+use Rattle.terms.specs.HeadLaws.{tree-step}
 use Rattle.terms.specs.Extents.{Terms, fieldPlace, fieldCount, firsts}
 use Rattle.terms.specs.ExtentLaws.{layout-known, layout-unknown, fields-firsts, module-fields}
 use Rattle.terms.specs.Compare.{byteUnder, under, under-is, sub-same}
-use Rattle.runs.specs.Table.{termLayout, structLayout, exactOf, entryAt, coreAt, Core, Few, Known}
+use Rattle.runs.specs.Table.{termLayout, structLayout, Core}
 use Rattle.runs.specs.TableLaws.{layout-at, layout-arr}
 use Rattle.runs.specs.declared.Primitive.{Primitive}
 

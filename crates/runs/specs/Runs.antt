@@ -1,9 +1,9 @@
 -- Runs as the code decides them: a run is there where as many primitives follow and each is the same. Assumes nothing.
 use mathlib.Core.Path.{_≡_, refl, sym, ap, ap₂, _∙_, subst}
-use mathlib.Core.Logic.{_⊎_, inl, inr, ⊎-elim}
-use mathlib.Core.Bool.{Bool, true, false, _&&_, not, cond}
+use mathlib.Core.Logic.{inr, ⊎-elim}
+use mathlib.Core.Bool.{Bool, true, false, _&&_, not}
 use mathlib.Core.List.{List, [], _∷_, map}
-use Prim.Native.Nat.{ℕ, zero, suc, _+_, _-_, _*_, _/_, _%_, _≤_, _<_}
+use Prim.Native.Nat.{ℕ, suc, _+_, _-_, _*_, _/_, _%_, _≤_, _<_}
 use native.Mathlib.Decide.{ℕ-discrete, decLt, decLe}
 use native.Mathlib.Nat.{mul-comm}
 use native.Mathlib.Omega.{arith}
@@ -15,20 +15,20 @@ use Rattle.words.specs.Bytes.{Bytes}
 use Rattle.words.specs.Choose.{false-by, true-not-false, lt-or-le, bool-same, and-no}
 use Rattle.words.specs.First.{first}
 use Rattle.words.specs.FirstLaws.{first-is}
-use Rattle.words.specs.Decide.{does, does-true, decBoth, mapDec}
+use Rattle.words.specs.Decide.{does, does-true, decBoth}
 use Rattle.rules.specs.Types.{RegionKind, variable, live, Region, Variable, region, Tree, int, ptr, arr, struct, sub, arg, nowhere, decTree, form, numberOf, inner}
 use Rattle.rules.specs.Module.{Module}
-use Rattle.rules.specs.Flat.{Placed, at, off, type, Layout, count, none, moved, copies, placedIn, subLayout, flatWith, layouts, flat, distance, decPlaced, Run, decRun, positionAt, Same, decSame, size}
+use Rattle.rules.specs.Flat.{Placed, at, off, Layout, count, none, moved, copies, placedIn, subLayout, flatWith, layouts, flat, distance, decPlaced, Run, decRun, positionAt, Same, decSame, size}
 use Rattle.rules.specs.Decode.{moduleOf}
 use Rattle.layout.specs.Types.{sub-sub}
-use Rattle.layout.specs.Prims.{nth, moved-zero, moved-off, placed-off, count-sub, subLayout-size, subLayout-copies}
+use Rattle.layout.specs.Prims.{nth, moved-zero, count-sub, subLayout-size, subLayout-copies}
 use Rattle.rules.specs.Limits.{pages, pageBytes}
 use Rattle.rules.specs.Heap.{HeapTyping, decStands}
 use Rattle.layout.specs.Flat.{distance-zero, size-sub}
-use Rattle.layout.specs.Runs.{Matches, run-matches, matches-run, Rising, flat-rising, nth-sub, distance-sub, position-sub}
+use Rattle.layout.specs.Runs.{run-matches, matches-run, Rising, flat-rising, nth-sub, distance-sub, position-sub}
 use Rattle.terms.specs.Heads.{placeOf, treeAt}
 use Rattle.terms.specs.Extents.{Counted}
-use Rattle.terms.specs.Compare.{byteUnder, under, under-is, sub-same, does-yes, does-map, does-both, does-nat, placesSame}
+use Rattle.terms.specs.Compare.{under, under-is, sub-same, does-yes, does-map, does-both, does-nat, placesSame}
 use Rattle.runs.specs.Table.{termLayout, Table}
 use Rattle.runs.specs.TableLaws.{layout-term}
 use Rattle.runs.specs.Positions.{Keeps, Agree, under-agree, placedOf, Found}

@@ -2,7 +2,7 @@
 use mathlib.Core.Path.{_≡_}
 use mathlib.Core.List.{List}
 use Prim.Native.Nat.{ℕ, zero, suc, _+_, _*_, _/_, _%_, _≤_, _<_}
-use lib.ListN.{length, getD}
+use lib.ListN.{getD}
 use Rattle.words.specs.Bytes.{Bytes}
 use Rattle.rules.specs.File.{recordOf, kindInteger}
 use Rattle.rules.specs.Types.{RegionKind, variable}

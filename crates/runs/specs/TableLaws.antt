@@ -1,32 +1,31 @@
 -- Laws of the table of extents: counts are exact where integers have bytes; cores; filling; a table for all structs is one for
 -- fewer. Assumes nothing.
 use mathlib.Core.Path.{_≡_, refl, sym, ap, ap₂, _∙_, subst}
-use mathlib.Core.Logic.{_⊎_, inl, inr, ⊎-elim}
-use mathlib.Core.Bool.{Bool, true, false, cond}
-use mathlib.Core.List.{List, [], _∷_, map, append-nil}
-use Prim.Native.Nat.{ℕ, zero, suc, _+_, _-_, _*_, _/_, _%_, _≤_, _<_}
-use native.Mathlib.Nat.{mul-le-mul-left, le-refl, zero-add, add-zero, one-mul}
+use mathlib.Core.Logic.{⊎-elim}
+use mathlib.Core.List.{List, append-nil}
+use Prim.Native.Nat.{ℕ, zero, suc, _+_, _-_, _*_, _/_, _≤_, _<_}
+use native.Mathlib.Nat.{mul-le-mul-left, le-refl, add-zero}
 use native.Mathlib.Numerals.{add-one}
 use native.Mathlib.Omega.{arith}
-use lib.Dec.{eqb, leb}
+use lib.Dec.{eqb}
 use lib.ListN.{length, getD, set, length-map}
 use lib.Seq.{getD-set-same, getD-set-other}
 use borrow.Author.Tests.{eqb-true}
-use Rattle.words.specs.Bytes.{Bytes, AllBytes, listOf}
-use Rattle.words.specs.Choose.{cond-split, lt-or-le, split-le}
+use Rattle.words.specs.Bytes.{Bytes, AllBytes}
+use Rattle.words.specs.Choose.{cond-split, lt-or-le}
 use Rattle.rules.specs.File.{recordOf}
 use Rattle.rules.specs.Types.{RegionKind, variable, Region, Tree, int, ptr, arr, struct, arg}
 use Rattle.rules.specs.Module.{Module}
-use Rattle.rules.specs.Flat.{Placed, Layout, count, single, none, empty, moved, packed, beside, copiesOf, copies, placedIn, subLayout, flatWith, fieldsWith, layouts, flat}
-use Rattle.rules.specs.Decode.{noTree, moduleOf}
+use Rattle.rules.specs.Flat.{Placed, Layout, count, none, beside, copiesOf, copies, placedIn, subLayout, flatWith, layouts, flat}
+use Rattle.rules.specs.Decode.{moduleOf}
 use Rattle.rules.specs.declared.Record.{Record}
-use Rattle.layout.specs.Prims.{count-packed, count-copiesOf, size-copiesOf, beside-sized, beside-none, copies-sized, copies-none, copies-fit, count-sub, subLayout-size}
+use Rattle.layout.specs.Prims.{count-packed, count-copiesOf, size-copiesOf, beside-sized, beside-none, copies-sized, copies-none, copies-fit, subLayout-size}
 use Rattle.terms.specs.declared.Extent.{Extent}
 use Rattle.terms.specs.declared.Head.{Head}
 use Rattle.terms.specs.declared.Head.the-variants.{Int, Ptr, Arr, Struct}
 use Rattle.terms.specs.Heads.{placeOf, treeAt, headFrom, headOf, grow}
 use Rattle.terms.specs.HeadLaws.{tree-step, head-none, place-le, Fair, fair}
-use Rattle.terms.specs.Extents.{Terms, Counted, cap, extentOf, over, plus, times, Small, termExtent, fieldPlace, fieldCount, firsts, soFar}
+use Rattle.terms.specs.Extents.{Terms, Counted, over, plus, times, Small, termExtent, fieldPlace, fieldCount, firsts, soFar}
 use Rattle.terms.specs.ExtentLaws.{cap-same, plus-over, plus-fits, times-over, times-fits, term-int, term-ptr, term-arr, term-known, term-unknown, struct-all, so-begin, so-more, layout-known, layout-unknown, fields-firsts, module-fields, module-term}
 use Rattle.runs.specs.Table.{termLayout, structLayout, exactOf, InRange, Ranged, pack, unpack, entryAt, coreAt, Core, Few, Filled, Known, Table}
 

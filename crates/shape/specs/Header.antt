@@ -1,5 +1,5 @@
 -- Length and header of a state. Assumes nothing.
-use mathlib.Core.Path.{_≡_, refl, sym, ap, _∙_}
+use mathlib.Core.Path.{_≡_, sym, _∙_}
 use mathlib.Core.Bool.{Bool, _&&_, _||_}
 use mathlib.Core.Logic.{_⊎_, inl, inr}
 use Prim.Native.Nat.{ℕ, _<_, _≤_}
@@ -9,7 +9,7 @@ use Rattle.words.specs.Bytes.{Bytes}
 use Rattle.rules.specs.Limits.{stateBytes, outputBytes}
 use Rattle.words.specs.Decide.{does}
 use Rattle.rules.specs.State.{View, view}
-use Rattle.rules.specs.StateTest.{Listed, StatusOk, running, stopped, ended, decStatus}
+use Rattle.rules.specs.StateTest.{StatusOk, running, stopped, ended, decStatus}
 use Rattle.stack.specs.Tells.{Tells, tells-map, tells-and, tells-or, tells-lt, tells-le, tells-eq, tells-does, does-tells}
 
 pub record HeaderOk (s : Bytes) : Type 0 where

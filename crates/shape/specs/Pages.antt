@@ -1,8 +1,8 @@
 -- "page 0 is unowned; owners are live; unowned pages have no used marks", page by page and by the bytes of the marks. Assumes nothing.
-use mathlib.Core.Path.{_≡_, refl, sym, ap, _∙_}
+use mathlib.Core.Path.{_≡_, sym, ap, _∙_}
 use mathlib.Core.Bool.{Bool, not, _&&_}
 use mathlib.Core.Logic.{_≢_}
-use Prim.Native.Nat.{ℕ, suc, _+_, _-_, _*_, _<_, _≤_}
+use Prim.Native.Nat.{ℕ, _+_, _-_, _<_}
 use native.Mathlib.Omega.{arith}
 use lib.Dec.{eqb}
 use Rattle.words.specs.Bytes.{Bytes, AllBytes, byteAt}
@@ -13,7 +13,7 @@ use Rattle.rules.specs.Heap.{Live, decLive}
 use Rattle.state.specs.Marks.{marks-none, bytes-none}
 use Rattle.stack.specs.Tells.{Tells, tells-map, tells-and, tells-eq, tells-back}
 use Rattle.stack.specs.Facts.{NotLive}
-use Rattle.shape.specs.Zeros.{ZeroFrom, Zero}
+use Rattle.shape.specs.Zeros.{Zero}
 
 -- page p, of n frames
 pub record PageOk (f s : Bytes) (n p : ℕ) : Type 0 where

@@ -1,22 +1,22 @@
 -- Spare bytes, frame by frame: what a function does not have, and frames not in use, as zero bytes. Assumes nothing.
-use mathlib.Core.Path.{_≡_, refl, sym, ap, _∙_}
+use mathlib.Core.Path.{_≡_, sym, ap, _∙_}
 use mathlib.Core.Bool.{Bool, _&&_}
-use mathlib.Core.Logic.{_⊎_, inl, inr, ⊎-elim}
-use Prim.Native.Nat.{ℕ, suc, _+_, _-_, _*_, _/_, _<_, _≤_}
+use mathlib.Core.Logic.{inl, inr, ⊎-elim}
+use Prim.Native.Nat.{ℕ, _+_, _-_, _/_, _<_, _≤_}
 use native.Mathlib.Decide.{decLt}
 use native.Mathlib.Omega.{arith}
-use Rattle.words.specs.Bytes.{Bytes, byteAt, number}
+use Rattle.words.specs.Bytes.{Bytes, byteAt}
 use Rattle.words.specs.ByteLaws.{number-zero}
 use Rattle.words.specs.Choose.{lt-or-le}
 use Rattle.rules.specs.Limits.{mostFrames, mostRegisters, mostRegions, headerEnd, ownersAt, stackEnd, spareIn, memoryAt, frameBytes}
 use Rattle.rules.specs.Module.{regions}
 use Rattle.rules.specs.Decode.{moduleOf}
-use Rattle.rules.specs.State.{view, framePlace, registerPlace, mapPlace, functionPlace, instructionPlace, frameFunction, frameInstruction, frameRegister, frameMap, SpareInFrame, SpareZero}
+use Rattle.rules.specs.State.{view, framePlace, registerPlace, mapPlace, functionPlace, instructionPlace, frameFunction, frameInstruction, frameRegister, frameMap, SpareZero}
 use Rattle.rules.specs.declared.Record.{Record}
 use Rattle.state.specs.Reads.{function-is, instruction-is, register-is, map-is, register-past, map-past}
 use Rattle.stack.specs.Tells.{Tells, tells-map, tells-and}
 use Rattle.stack.specs.Facts.{functionAt, headAt, registers-at, regions-at}
-use Rattle.shape.specs.Zeros.{ZeroFrom, Zero, byte-none}
+use Rattle.shape.specs.Zeros.{Zero, byte-none}
 
 -- ---- the parts of a frame
 

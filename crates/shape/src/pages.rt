@@ -1,5 +1,4 @@
 // "page 0 is unowned; owners are live; unowned pages have no used marks".
-ghost use mathlib.Core.Path.{_≡_};
 ghost use Prim.Native.Nat.{ℕ, _<_};
 ghost use Rattle.rules.specs.Limits.{pages};
 ghost use Rattle.stack.specs.Tells.{Tells};

@@ -1,5 +1,4 @@
 // "spare bytes zero": behind the header, behind the frames, frames not in use, and in a frame what its function does not have.
-ghost use mathlib.Core.Path.{_≡_};
 ghost use Prim.Native.Nat.{ℕ, _<_, _≤_};
 ghost use lib.ListN.{length};
 ghost use Rattle.rules.specs.Limits.{mostFrames};

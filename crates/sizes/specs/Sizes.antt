@@ -1,10 +1,9 @@
 -- Refusal 5 as the code tests it: document 01, "5 term or name without size, over 256 bytes, wrong argument count, or field using a
 -- region its name lacks". Each test is the decision's answer. Assumes nothing but the file's counts, where it says so.
 use mathlib.Core.Path.{_≡_, refl, sym, ap, ap₂, _∙_}
-use mathlib.Core.Bool.{Bool, true, false, not, _&&_, _||_}
-use mathlib.Core.List.{List, [], _∷_}
-use Prim.Native.Nat.{ℕ, zero, suc, _+_, _*_, _<_, _≤_}
-use native.Mathlib.Decide.{ℕ-discrete, decLe}
+use mathlib.Core.Bool.{Bool, not, _&&_, _||_}
+use Prim.Native.Nat.{ℕ, zero, suc, _+_, _<_, _≤_}
+use native.Mathlib.Decide.{ℕ-discrete}
 use native.Mathlib.Omega.{arith}
 use lib.Dec.{leb, eqb}
 use lib.ListN.{length}
@@ -12,14 +11,13 @@ use Rattle.words.specs.Bytes.{Bytes, listFrom, listOf}
 use Rattle.words.specs.ByteLaws.{length-listOf}
 use Rattle.words.specs.First.{allBelow}
 use Rattle.words.specs.FirstLaws.{all-holds, all-from}
-use Rattle.words.specs.Decide.{does, does-true, decBoth, mapDec, Each, none, more, decEach}
+use Rattle.words.specs.Decide.{does, does-true, Each, none, more, decEach}
 use Rattle.rules.specs.Limits.{sizeLimit}
 use Rattle.rules.specs.File.{recordOf, entryOf}
-use Rattle.rules.specs.Types.{variable, region, Tree, Uses, decUses}
-use Rattle.rules.specs.Module.{Module}
-use Rattle.rules.specs.Flat.{flat, structFlat, size}
+use Rattle.rules.specs.Types.{variable, region, Tree, decUses}
+use Rattle.rules.specs.Flat.{structFlat, size}
 use Rattle.rules.specs.Decode.{structStart, fieldsOf, moduleOf}
-use Rattle.rules.specs.WellTyped.{Counts, decCounts, decTerm, decStruct}
+use Rattle.rules.specs.WellTyped.{decCounts, decTerm, decStruct}
 use Rattle.rules.specs.Verdict.{termTest, structTest}
 use Rattle.typing.specs.Tests.{true-does}
 use Rattle.terms.specs.declared.Head.{Head}

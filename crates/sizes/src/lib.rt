@@ -8,7 +8,7 @@ ghost use Rattle.rules.specs.WellTyped.{decCounts};
 ghost use Rattle.rules.specs.Decode.{moduleOf};
 ghost use Rattle.rules.specs.Verdict.{termTest, structTest};
 ghost use Rattle.terms.specs.Extents.{Terms, Counted};
-ghost use Rattle.sizes.specs.Sizes.{wordLimit, arityOf, fieldTerm, countsHead, fieldFits, fieldsFit};
+ghost use Rattle.sizes.specs.Sizes.{wordLimit, arityOf, fieldTerm, fieldFits, fieldsFit};
 
 // The regions of struct `number`, of a file with n terms.
 fn arity(f: &[u8], n: usize, number: usize) -> usize

@@ -1,28 +1,28 @@
 -- The call that a frame stands at, on the bytes of file and state: the record of its instruction is a 33, its callee and its regions.
 -- Assumes nothing.
 use mathlib.Core.Path.{_≡_, refl, sym, ap, _∙_}
-use mathlib.Core.Bool.{Bool, true, false, cond, _&&_}
+use mathlib.Core.Bool.{Bool, cond, _&&_}
 use mathlib.Core.Logic.{_≢_}
 use mathlib.Core.List.{List, [], _∷_, _++_}
-use Prim.Native.Nat.{ℕ, zero, suc, _+_, _*_, _/_, _%_, _<_, _≤_, _^_}
+use Prim.Native.Nat.{ℕ, zero, suc, _+_, _/_, _%_, _<_, _≤_, _^_}
 use native.Mathlib.Numerals.{add-one}
 use native.Mathlib.Decide.{decLt}
 use native.Mathlib.Omega.{arith}
 use lib.Dec.{eqb, ltb}
 use lib.ListN.{length, getD, length-append}
-use borrow.Author.Tests.{eq-eqb, ne-eqb}
+use borrow.Author.Tests.{ne-eqb}
 use Rattle.words.specs.Bytes.{Bytes, AllBytes, listOf}
 use Rattle.words.specs.ByteLaws.{getD-listOf}
 use Rattle.words.specs.Choose.{cond-split, eq-or-ne}
 use Rattle.rules.specs.File.{records, recordOf, recordStart, byteOfD, entryOf, instructionsOf, parametersOf, kindCall, Group, arithmetic, memory, control, groupOf}
 use Rattle.rules.specs.Types.{Variable, region, arg, nowhere}
-use Rattle.rules.specs.Module.{Instruction, call, kindOf}
-use Rattle.rules.specs.Walk.{Scan, next, scan, nextScan, whole}
+use Rattle.rules.specs.Module.{Instruction, call}
+use Rattle.rules.specs.Walk.{next, scan, nextScan, whole}
 use Rattle.rules.specs.Records.{headOf}
 use Rattle.rules.specs.Decode.{moduleOf, functionOf, after, codeAt, codeOf, callOf, regionBytes, arithmeticOf, memoryOf, controlOf, byGroup, instructionOf, startOf, instructionAt}
 use Rattle.rules.specs.State.{view, frameFunction, frameInstruction, frameMap}
-use Rattle.rules.specs.Step.{IsCall, StandsAtCall, notCall}
-use Rattle.rules.specs.StateTest.{Chained, site-unique}
+use Rattle.rules.specs.Step.{IsCall, notCall}
+use Rattle.rules.specs.StateTest.{Chained}
 use Rattle.rules.specs.declared.Record.{Record}
 use Rattle.state.specs.Reads.{instruction-lt}
 use Rattle.typing.specs.Lists.{getD-left, getD-last, getD-past}

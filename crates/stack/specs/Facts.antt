@@ -3,19 +3,19 @@ use mathlib.Core.Path.{_≡_, refl, sym, ap, _∙_}
 use mathlib.Core.Bool.{Bool, not, _&&_}
 use mathlib.Core.Logic.{_≢_}
 use mathlib.Core.List.{List}
-use Prim.Native.Nat.{ℕ, zero, suc, _+_, _<_, _≤_, _^_}
+use Prim.Native.Nat.{ℕ, suc, _+_, _<_, _^_}
 use native.Mathlib.Numerals.{add-one}
 use native.Mathlib.Omega.{arith}
 use lib.Dec.{eqb, ltb}
 use lib.ListN.{length}
 use Rattle.words.specs.Bytes.{Bytes}
 use Rattle.rules.specs.Limits.{liveRegions}
-use Rattle.rules.specs.File.{recordOf, instructionsOf, regionsOf}
+use Rattle.rules.specs.File.{instructionsOf, regionsOf}
 use Rattle.rules.specs.Walk.{whole}
 use Rattle.rules.specs.Records.{headOf}
-use Rattle.rules.specs.Module.{Module, Function, regions}
+use Rattle.rules.specs.Module.{Function, regions}
 use Rattle.rules.specs.Decode.{moduleOf, functionOf}
-use Rattle.rules.specs.State.{frameFunction, frameInstruction, frameMap}
+use Rattle.rules.specs.State.{frameFunction, frameMap}
 use Rattle.rules.specs.Heap.{Local, Live}
 use Rattle.rules.specs.declared.Record.{Record}
 use Rattle.walk.specs.Tables.{startsOf}

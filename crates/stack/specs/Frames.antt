@@ -1,19 +1,18 @@
 -- The clause of the state test on frames, from the tests of its frames one by one. Assumes nothing.
-use mathlib.Core.Path.{_≡_, refl, sym, ap, _∙_}
+use mathlib.Core.Path.{_≡_, sym, ap}
 use mathlib.Core.Bool.{Bool}
 use mathlib.Core.Logic.{_⊎_, inl, inr, ⊎-elim, _≢_}
-use Prim.Native.Nat.{ℕ, zero, suc, _+_, _<_, _≤_}
-use native.Mathlib.Numerals.{add-one}
+use Prim.Native.Nat.{ℕ, suc, _+_, _<_, _≤_}
 use native.Mathlib.Omega.{arith}
 use Rattle.words.specs.Bytes.{Bytes}
 use Rattle.words.specs.Choose.{lt-or-le, eq-or-ne}
-use Rattle.rules.specs.Limits.{mostFrames, liveRegions}
+use Rattle.rules.specs.Limits.{mostFrames}
 use Rattle.words.specs.Decide.{does}
 use Rattle.rules.specs.Decode.{moduleOf}
 use Rattle.rules.specs.State.{view, frameFunction, frameInstruction, frameMap}
 use Rattle.rules.specs.StateTest.{FramesOk, decFrames}
-use Rattle.stack.specs.Tells.{Tells, tells-map, tells-yes, tells-and, tells-does}
-use Rattle.stack.specs.Facts.{functionAt, headAt, Elsewhere, NotLive, LocalOk, LocalsOk, params-at, locals-at}
+use Rattle.stack.specs.Tells.{Tells, tells-map, tells-does}
+use Rattle.stack.specs.Facts.{functionAt, LocalOk, LocalsOk, params-at, locals-at}
 use Rattle.stack.specs.Chain.{Stands, Linked}
 
 -- of n frames

@@ -3,7 +3,6 @@ ghost use mathlib.Core.Path.{_≡_};
 ghost use Prim.Native.Nat.{ℕ, _+_, _<_, _^_};
 ghost use Rattle.rules.specs.File.{recordOf, byteOfD, instructionsOf};
 ghost use Rattle.rules.specs.Decode.{startOf, instructionAt};
-ghost use Rattle.rules.specs.State.{frameFunction, frameInstruction};
 ghost use Rattle.typing.specs.Walk.{skip};
 ghost use Rattle.stack.specs.Tells.{Tells};
 ghost use Rattle.stack.specs.Facts.{Known};

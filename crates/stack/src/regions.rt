@@ -1,6 +1,6 @@
 // Live regions: those local to a frame. A number x is 1 + a region, as an owner is.
 ghost use mathlib.Core.Path.{_≡_};
-ghost use Prim.Native.Nat.{ℕ, suc, _+_, _<_};
+ghost use Prim.Native.Nat.{ℕ, _+_, _<_};
 ghost use Rattle.rules.specs.State.{frameMap};
 ghost use Rattle.stack.specs.Tells.{Tells};
 ghost use Rattle.stack.specs.Facts.{Known, headAt, Elsewhere, NotLocal, NotLive, LocalOk, LocalsOk};

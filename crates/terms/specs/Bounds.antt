@@ -3,12 +3,12 @@
 use mathlib.Core.Path.{_≡_, refl, sym, ap, _∙_}
 use mathlib.Core.Logic.{_↔_}
 use mathlib.Core.List.{List, [], _∷_}
-use Prim.Native.Nat.{ℕ, zero, suc, max, _+_, _-_, _<_, _≤_}
+use Prim.Native.Nat.{ℕ, suc, max, _+_, _-_, _<_, _≤_}
 use native.Mathlib.Numerals.{add-one}
 use native.Mathlib.Omega.{arith}
-use Rattle.words.specs.Bytes.{Bytes, listFrom, listOf}
-use Rattle.words.specs.Decide.{does, does-true, Each, none, more}
-use Rattle.rules.specs.Types.{variable, Region, Variable, region, Tree, int, ptr, arr, struct, Uses, in-int, in-ptr, in-arr, in-struct, decUses}
+use Rattle.words.specs.Bytes.{Bytes, listFrom}
+use Rattle.words.specs.Decide.{Each, none, more}
+use Rattle.rules.specs.Types.{variable, Variable, region, Tree, int, ptr, arr, struct, Uses, in-int, in-ptr, in-arr, in-struct}
 use Rattle.terms.specs.declared.Head.{Head}
 use Rattle.terms.specs.declared.Head.the-variants.{Int, Ptr, Arr, Struct}
 use Rattle.terms.specs.Heads.{digit, argsOf, treeAt, headOf, grow, innerNo}

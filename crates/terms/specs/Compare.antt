@@ -18,7 +18,7 @@ use Rattle.words.specs.First.{allBelow}
 use Rattle.words.specs.FirstLaws.{all-holds, all-from}
 use Rattle.words.specs.Decide.{does, does-true, decBoth, mapDec, decList}
 use Rattle.rules.specs.Types.{RegionKind, variable, Region, Variable, region, decRegion, Tree, int, ptr, arr, struct, sub, arg, nowhere, decTree}
-use Rattle.rules.specs.Decode.{noTree, moduleOf}
+use Rattle.rules.specs.Decode.{moduleOf}
 use Rattle.terms.specs.declared.Head.{Head}
 use Rattle.terms.specs.declared.Head.the-variants.{Int, Ptr, Arr, Struct}
 use Rattle.terms.specs.Heads.{digit, argsOf, placeOf, treeAt, headOf, grow, formNo, mainNo, innerNo, regionNo, argsNo, wordNo}

@@ -1,31 +1,28 @@
 -- Laws of extents: they go through the operations that make a layout; the extent of a term by its head, and of a struct field by
 -- field, as the code makes them. Assumes nothing.
 use mathlib.Core.Path.{_≡_, refl, sym, ap, ap₂, _∙_}
-use mathlib.Core.Logic.{_⊎_, inl, inr, ⊎-elim}
-use mathlib.Core.Bool.{Bool, true, false, cond}
-use mathlib.Core.List.{List, [], _∷_, _++_, map}
+use mathlib.Core.Logic.{⊎-elim}
+use mathlib.Core.List.{List, [], _∷_, map}
 use Prim.Native.Nat.{ℕ, zero, suc, _+_, _-_, _*_, _<_, _≤_}
 use native.Mathlib.Nat.{add-zero, zero-add}
 use native.Mathlib.Numerals.{add-one}
 use native.Mathlib.Omega.{arith}
-use lib.Dec.{leb, ltb}
 use lib.ListN.{length, getD, length-append, length-map, List·getD-append, List·getD-eq-default}
 use lib.Seq.{getD-at}
 use Rattle.words.specs.Bytes.{Bytes, listFrom, listOf}
 use Rattle.words.specs.ByteLaws.{listOf-agree}
 use Rattle.words.specs.Choose.{cond-le, cond-nle, split-le, lt-or-le}
-use Rattle.rules.specs.Limits.{sizeLimit}
 use Rattle.rules.specs.File.{recordOf, entryOf}
 use Rattle.rules.specs.Types.{RegionKind, variable, Region, Tree, int, ptr, arr, struct, arg, sub}
 use Rattle.rules.specs.Module.{Module}
-use Rattle.rules.specs.Flat.{Placed, Layout, count, single, none, empty, moved, packed, beside, copiesOf, copies, placedIn, subLayout, flatWith, fieldsFrom, fieldsWith, layouts, flat, structFlat}
+use Rattle.rules.specs.Flat.{Layout, count, none, moved, packed, beside, copiesOf, copies, placedIn, subLayout, flatWith, fieldsFrom, fieldsWith, layouts, flat, structFlat}
 use Rattle.rules.specs.Decode.{noTree, treesOf, structStart, fieldsOf, moduleOf}
 use Rattle.terms.specs.declared.Extent.{Extent}
 use Rattle.terms.specs.declared.Head.{Head}
 use Rattle.terms.specs.declared.Head.the-variants.{Int, Ptr, Arr, Struct}
 use Rattle.terms.specs.Heads.{argsOf, placeOf, treeAt, headOf, grow}
-use Rattle.terms.specs.HeadLaws.{trees-at, tree-step, place-le}
-use Rattle.terms.specs.Extents.{Terms, Counted, cap, extentOf, over, plus, times, Small, termExtent, structExtent, fieldPlace, fieldCount, firsts, soFar}
+use Rattle.terms.specs.HeadLaws.{trees-at, tree-step}
+use Rattle.terms.specs.Extents.{Terms, Counted, cap, extentOf, over, plus, times, termExtent, structExtent, fieldPlace, fieldCount, firsts, soFar}
 
 -- ---- cap
 

@@ -5,12 +5,10 @@ use mathlib.Core.Bool.{cond}
 use mathlib.Core.List.{List}
 use Prim.Native.Nat.{ℕ, zero, suc, _+_, _*_, _≤_}
 use lib.Dec.{leb}
-use lib.ListN.{getD}
 use Rattle.words.specs.Bytes.{Bytes}
 use Rattle.rules.specs.Limits.{mostTerms, mostStructs, sizeLimit}
 use Rattle.rules.specs.File.{recordOf, entryOf}
 use Rattle.rules.specs.Types.{RegionKind, variable, Tree}
-use Rattle.rules.specs.Module.{Module}
 use Rattle.rules.specs.Flat.{Layout, count, empty, beside, flatWith, fieldsWith, layouts}
 use Rattle.rules.specs.Decode.{structStart, moduleOf}
 use Rattle.terms.specs.declared.Extent.{Extent}

@@ -1,20 +1,20 @@
 -- Laws of heads: a tree is its head with the trees of lower places inside; what the module's terms and fields are by places.
 -- Assumes nothing.
-use mathlib.Core.Path.{_≡_, refl, sym, ap, ap₂, _∙_, subst}
-use mathlib.Core.Bool.{Bool, true, false, cond}
-use mathlib.Core.Logic.{_⊎_, inl, inr, ⊎-elim}
-use mathlib.Core.List.{List, [], _∷_, _++_}
-use Prim.Native.Nat.{ℕ, zero, suc, _+_, _-_, _*_, _/_, _%_, _<_, _≤_}
+use mathlib.Core.Path.{_≡_, refl, sym, ap, _∙_, subst}
+use mathlib.Core.Bool.{Bool}
+use mathlib.Core.Logic.{⊎-elim}
+use mathlib.Core.List.{[], _∷_, _++_}
+use Prim.Native.Nat.{ℕ, zero, suc, _+_, _-_, _/_, _<_, _≤_}
 use native.Mathlib.Omega.{arith}
-use lib.Dec.{ltb, eqb}
+use lib.Dec.{eqb}
 use lib.ListN.{length, getD, length-append, List·getD-append, List·getD-eq-default}
 use lib.Seq.{getD-at}
-use Rattle.words.specs.Bytes.{Bytes, AllBytes, listFrom}
+use Rattle.words.specs.Bytes.{Bytes, AllBytes}
 use Rattle.words.specs.ByteLaws.{listOf-agree, number-lt}
 use Rattle.words.specs.Choose.{cond-lt, cond-nlt, cond-ne, cond-ap, cond-split, lt-or-le, split-lt}
 use Rattle.rules.specs.File.{recordOf, recordStart, byteOfD, entryOf}
-use Rattle.rules.specs.Types.{variable, Variable, region, Tree, int, ptr, arr, struct}
-use Rattle.rules.specs.Decode.{noTree, regionBytes, treeOf, treesOf, structStart, fieldsOf, moduleOf}
+use Rattle.rules.specs.Types.{variable, region, Tree}
+use Rattle.rules.specs.Decode.{noTree, regionBytes, treeOf, treesOf}
 use Rattle.rules.specs.declared.Record.{Record}
 use Rattle.terms.specs.declared.Head.{Head}
 use Rattle.terms.specs.declared.Head.the-variants.{Int, Ptr, Arr, Struct}

@@ -2,7 +2,7 @@
 -- place 0 is what is not there. Assumes nothing.
 use mathlib.Core.Bool.{cond}
 use mathlib.Core.List.{List}
-use Prim.Native.Nat.{ℕ, zero, suc, _+_, _/_, _%_, _<_}
+use Prim.Native.Nat.{ℕ, zero, suc, _/_, _%_}
 use lib.Dec.{ltb, eqb}
 use Rattle.words.specs.Bytes.{Bytes, listOf}
 use Rattle.rules.specs.File.{recordOf, kindInteger, kindPointer, kindArray}

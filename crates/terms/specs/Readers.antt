@@ -1,8 +1,7 @@
 -- What a term is, by its head: the small readers that rules 5, 6 and 7 use. Assumes nothing.
 use mathlib.Core.Path.{_≡_, refl, sym, ap, _∙_}
 use mathlib.Core.Bool.{Bool, true, false, cond, _&&_}
-use mathlib.Core.List.{List, [], _∷_}
-use Prim.Native.Nat.{ℕ, zero, suc, _+_, _-_, _<_, _≤_}
+use Prim.Native.Nat.{ℕ, suc, _-_, _<_, _≤_}
 use native.Mathlib.Decide.{ℕ-discrete}
 use native.Mathlib.Omega.{arith}
 use lib.Dec.{eqb, leb}
@@ -11,10 +10,10 @@ use borrow.Author.Tests.{le-leb, leb-true}
 use Rattle.words.specs.Bytes.{Bytes, AllBytes}
 use Rattle.words.specs.ByteLaws.{length-listOf}
 use Rattle.words.specs.Choose.{bool-same}
-use Rattle.words.specs.Decide.{does, does-true, mapDec}
-use Rattle.rules.specs.Types.{variable, Region, Variable, region, Tree, int, ptr, arr, struct, form, numberOf, inner, regionOf, args, decTree, decUses, Primitive, decPrimitive}
+use Rattle.words.specs.Decide.{does, does-true}
+use Rattle.rules.specs.Types.{variable, region, Tree, int, ptr, arr, struct, form, numberOf, inner, regionOf, args, decTree, decUses, decPrimitive}
 use Rattle.rules.specs.File.{recordOf, kindInteger, kindPointer, kindArray}
-use Rattle.rules.specs.Decode.{noTree, moduleOf}
+use Rattle.rules.specs.Decode.{moduleOf}
 use Rattle.rules.specs.declared.Record.{Record}
 use Rattle.terms.specs.declared.Head.{Head}
 use Rattle.terms.specs.declared.Head.the-variants.{Int, Ptr, Arr, Struct}

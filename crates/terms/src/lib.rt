@@ -2,12 +2,9 @@
 // definitions of `rules`, for all bytes; a term number that names nothing reads as `noTree`. A term's place is one more than its
 // number, and place 0 is what is not there: so the places inside a term are lower, and a walk along a term ends.
 ghost use mathlib.Core.Path.{_≡_};
-ghost use mathlib.Core.Bool.{Bool};
-ghost use Prim.Native.Nat.{ℕ, suc, max, _+_, _*_, _<_, _≤_};
-ghost use lib.ListN.{length, getD};
-ghost use lib.Dec.{eqb};
-ghost use Rattle.words.specs.First.{allBelow};
-ghost use Rattle.rules.specs.File.{recordOf, byteOfD, entryOf};
+ghost use Prim.Native.Nat.{max, _+_, _*_, _<_, _≤_};
+ghost use lib.ListN.{length};
+ghost use Rattle.rules.specs.File.{recordOf, entryOf};
 ghost use Rattle.rules.specs.Decode.{moduleOf};
 ghost use Rattle.rules.specs.Flat.{flat, structFlat};
 ghost use Rattle.words.specs.Decide.{does};

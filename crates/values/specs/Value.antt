@@ -1,27 +1,24 @@
 -- What makes a number a value of a written type under a frame's map, by the form of its term. Assumes nothing.
-use mathlib.Core.Path.{_≡_, refl, sym, ap, ap₂, _∙_}
-use mathlib.Core.Bool.{Bool, true, false, _||_}
-use mathlib.Core.Logic.{_≢_, _⊎_, inl, inr}
-use mathlib.Core.List.{List, [], _∷_}
-use Prim.Native.Nat.{ℕ, zero, suc, _+_, _-_, _*_, _^_, _/_, _<_, _≤_}
+use mathlib.Core.Path.{_≡_, refl, sym, ap, _∙_}
+use mathlib.Core.Bool.{Bool}
+use mathlib.Core.Logic.{_≢_, _⊎_}
+use Prim.Native.Nat.{ℕ, zero, suc, _-_, _^_, _/_, _<_, _≤_}
 use native.Mathlib.Nat.{pow-le-pow-right}
 use native.Mathlib.Omega.{arith}
-use lib.Dec.{eqb, ltb}
-use Rattle.words.specs.Bytes.{Bytes, listOf, listFrom}
-use Rattle.words.specs.ByteLaws.{getD-listOf}
+use lib.Dec.{ltb}
+use Rattle.words.specs.Bytes.{Bytes}
 use Rattle.words.specs.Decide.{does}
-use Rattle.rules.specs.Limits.{pageBytes, mostRegions}
-use Rattle.rules.specs.Types.{variable, live, Variable, region, Tree, int, ptr, arr, struct, form, numberOf, inner, regionOf, sub, Uses, nowhere}
+use Rattle.rules.specs.Limits.{pageBytes}
+use Rattle.rules.specs.Types.{variable, live, Tree, int, ptr, arr, struct, form, numberOf, inner, regionOf, sub}
 use Rattle.rules.specs.Flat.{flat, flatWith, size}
 use Rattle.rules.specs.Module.{Module}
 use Rattle.rules.specs.Decode.{moduleOf}
-use Rattle.rules.specs.State.{view, pageOwner, frameFunction, frameMap}
+use Rattle.rules.specs.State.{view, pageOwner, frameMap}
 use Rattle.rules.specs.Heap.{close, HeapTyping, heapTyping, Stands, decStands, Value}
-use Rattle.layout.specs.Types.{sub-agree}
-use Rattle.terms.specs.Compare.{under, under-is}
+use Rattle.terms.specs.Compare.{under}
 use Rattle.runs.specs.Runs.{StandsIs}
 use Rattle.runs.specs.Maps.{Narrow, mapList, under-close}
-use Rattle.stack.specs.Tells.{Tells, tells-map, tells-no, tells-yes, tells-or, tells-eq, tells-lt, does-tells}
+use Rattle.stack.specs.Tells.{Tells, tells-lt, does-tells}
 use Rattle.objects.specs.Homes.{regionTree, HomeIs}
 use Rattle.objects.specs.declared.Home.{Home}
 

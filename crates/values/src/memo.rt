@@ -1,5 +1,4 @@
 // Where runs stand, remembered: pointers of one term lead into one region, so that only the distance into its objects tells them apart.
-ghost use mathlib.Core.Path.{_≡_};
 ghost use Prim.Native.Nat.{_<_, _≤_};
 ghost use lib.ListN.{length};
 ghost use Rattle.runs.specs.Table.{Table};

@@ -1,11 +1,10 @@
 -- Instructions in a row: the walk counts each and does no more, up to a call, the last instruction, or a record that is none. Assumes nothing.
-use mathlib.Core.Path.{_≡_, refl, sym, ap, _∙_}
-use mathlib.Core.Bool.{Bool, true, false, cond, _&&_, not}
-use mathlib.Core.List.{List}
+use mathlib.Core.Path.{_≡_, refl, sym, _∙_}
+use mathlib.Core.Bool.{Bool, true, false, _&&_, not}
 use Prim.Native.Nat.{ℕ, _+_, _-_, _<_, _≤_}
 use native.Mathlib.Omega.{arith}
-use lib.Dec.{ltb, leb, eqb}
-use borrow.Author.Tests.{ltb-true, le-ltb, lt-leb, not-true, not-false}
+use lib.Dec.{ltb, eqb}
+use borrow.Author.Tests.{ltb-true, le-ltb, lt-leb, not-true}
 use Rattle.words.specs.Bytes.{Bytes}
 use Rattle.words.specs.Choose.{both}
 use Rattle.rules.specs.File.{recordOf, isInstruction, kindCall}

@@ -1,11 +1,10 @@
 -- `checker::function_rules` meets its contract: refusal 6 is one stage, and refusals 7 and 8 behind it.
-use mathlib.Core.Path.{_≡_, refl, sym, ap, ap₂, _∙_}
-use Prim.Native.Nat.{ℕ, _<_, _≤_, _-_}
+use mathlib.Core.Path.{ap, _∙_}
+use Prim.Native.Nat.{ℕ}
 use denote.Ref.{now}
 use Rattle.rules.specs.Decode.{moduleOf}
-use Rattle.rules.specs.declared.Verdict.{Verdict}
 use Rattle.rules.specs.declared.Verdict.the-variants as verdicts
-use Rattle.rules.specs.Verdict.{termStage, structStage, functionStage, lastStage, termTest, structTest, functionTest, lastTest, acceptedAs}
+use Rattle.rules.specs.Verdict.{functionStage, functionTest}
 use Rattle.words.specs.First.{first}
 use Rattle.words.specs.FirstLaws.{first-all}
 use Rattle.checker.specs.Rules.{functionRules, typedRules, stage-passes, stage-refuses}

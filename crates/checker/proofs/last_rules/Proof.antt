@@ -1,11 +1,10 @@
 -- `checker::last_rules` meets its contract: refusal 8 is one stage, and accepted behind it.
-use mathlib.Core.Path.{_≡_, refl, sym, ap, ap₂, _∙_}
-use Prim.Native.Nat.{ℕ, _<_, _≤_, _-_}
+use mathlib.Core.Path.{ap, _∙_}
+use Prim.Native.Nat.{ℕ}
 use denote.Ref.{now}
 use Rattle.rules.specs.Decode.{moduleOf}
-use Rattle.rules.specs.declared.Verdict.{Verdict}
 use Rattle.rules.specs.declared.Verdict.the-variants as verdicts
-use Rattle.rules.specs.Verdict.{termStage, structStage, functionStage, lastStage, termTest, structTest, functionTest, lastTest, acceptedAs}
+use Rattle.rules.specs.Verdict.{lastStage, lastTest, acceptedAs}
 use Rattle.words.specs.First.{first}
 use Rattle.functions.specs.Functions.{start-small}
 use Rattle.checker.specs.Rules.{lastRules, stage-passes, stage-refuses, last-place-is, accepted-is}

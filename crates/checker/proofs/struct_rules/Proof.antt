@@ -1,11 +1,10 @@
 -- `checker::struct_rules` meets its contract: refusal 5 of the structs is one stage, and refusals 6 to 8 behind it.
-use mathlib.Core.Path.{_≡_, refl, sym, ap, ap₂, _∙_}
-use Prim.Native.Nat.{ℕ, _<_, _≤_, _-_}
+use mathlib.Core.Path.{ap, _∙_}
+use Prim.Native.Nat.{ℕ}
 use denote.Ref.{now}
 use Rattle.rules.specs.Decode.{moduleOf}
-use Rattle.rules.specs.declared.Verdict.{Verdict}
 use Rattle.rules.specs.declared.Verdict.the-variants as verdicts
-use Rattle.rules.specs.Verdict.{termStage, structStage, functionStage, lastStage, termTest, structTest, functionTest, lastTest, acceptedAs}
+use Rattle.rules.specs.Verdict.{structStage, structTest}
 use Rattle.words.specs.First.{first}
 use Prim.Native.Nat.{_+_, _*_}
 use Rattle.checker.specs.Rules.{structRules, functionRules, stage-passes, stage-refuses}

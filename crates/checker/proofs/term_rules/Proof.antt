@@ -1,11 +1,9 @@
 -- `checker::term_rules` meets its contract: refusal 5 of the terms is one stage, and the rest behind it.
-use mathlib.Core.Path.{_≡_, refl, sym, ap, ap₂, _∙_}
-use Prim.Native.Nat.{ℕ, _<_, _≤_, _-_}
+use mathlib.Core.Path.{ap, _∙_}
+use Prim.Native.Nat.{ℕ}
 use denote.Ref.{now}
 use Rattle.rules.specs.Decode.{moduleOf}
-use Rattle.rules.specs.declared.Verdict.{Verdict}
-use Rattle.rules.specs.declared.Verdict.the-variants as verdicts
-use Rattle.rules.specs.Verdict.{termStage, structStage, functionStage, lastStage, termTest, structTest, functionTest, lastTest, acceptedAs}
+use Rattle.rules.specs.Verdict.{termStage, termTest}
 use Rattle.words.specs.First.{first}
 use Rattle.checker.specs.Rules.{termRules, structRules, stage-passes, stage-refuses}
 use native.Mathlib.Omega.{arith}

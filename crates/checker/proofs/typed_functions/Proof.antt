@@ -1,12 +1,7 @@
 -- `checker::typed_functions` meets its contract: the functions passed have no failing instruction, and those left decide.
-use mathlib.Core.Path.{_≡_, refl, sym, ap, ap₂, _∙_}
+use mathlib.Core.Path.{_≡_, sym, ap, _∙_}
 use Prim.Native.Nat.{ℕ, _<_, _≤_, _-_}
 use denote.Ref.{now}
-use Rattle.rules.specs.Decode.{moduleOf}
-use Rattle.rules.specs.declared.Verdict.{Verdict}
-use Rattle.rules.specs.declared.Verdict.the-variants as verdicts
-use Rattle.rules.specs.Verdict.{termStage, structStage, functionStage, lastStage, termTest, structTest, functionTest, lastTest, acceptedAs}
-use Rattle.words.specs.First.{first}
 use Rattle.rules.specs.declared.Record.{Record}
 use Rattle.instructions.specs.Scan.{typedFrom, typed-passes, typed-refuses, typed-ended}
 use Rattle.functions.specs.Functions.{functionAt, start-small, length-at}

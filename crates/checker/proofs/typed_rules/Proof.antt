@@ -1,12 +1,6 @@
 -- `checker::typed_rules` meets its contract: refusal 7's outcome, and refusal 8 behind it.
-use mathlib.Core.Path.{_≡_, refl, sym, ap, ap₂, _∙_}
-use Prim.Native.Nat.{ℕ, _<_, _≤_, _-_}
+use mathlib.Core.Path.{sym, ap, _∙_}
 use denote.Ref.{now}
-use Rattle.rules.specs.Decode.{moduleOf}
-use Rattle.rules.specs.declared.Verdict.{Verdict}
-use Rattle.rules.specs.declared.Verdict.the-variants as verdicts
-use Rattle.rules.specs.Verdict.{termStage, structStage, functionStage, lastStage, termTest, structTest, functionTest, lastTest, acceptedAs}
-use Rattle.words.specs.First.{first}
 use Rattle.records.specs.declared.framing.Outcome.{Outcome}
 use Rattle.records.specs.Outcome.{andThen}
 use Rattle.instructions.specs.Scan.{typedFrom}

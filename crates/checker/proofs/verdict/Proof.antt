@@ -1,17 +1,11 @@
 -- `checker::verdict` meets its contract: refusals 1 to 4, and those of 5 to 8 behind them.
-use mathlib.Core.Path.{_≡_, refl, sym, ap, ap₂, _∙_}
-use Prim.Native.Nat.{ℕ, _<_, _≤_, _-_}
+use mathlib.Core.Path.{_≡_, sym, ap, _∙_}
 use denote.Ref.{now}
-use Rattle.rules.specs.Decode.{moduleOf}
-use Rattle.rules.specs.declared.Verdict.{Verdict}
-use Rattle.rules.specs.declared.Verdict.the-variants as verdicts
-use Rattle.rules.specs.Verdict.{termStage, structStage, functionStage, lastStage, termTest, structTest, functionTest, lastTest, acceptedAs}
-use Rattle.words.specs.First.{first}
 use Rattle.records.specs.declared.framing.Outcome.{Outcome}
 use Rattle.records.specs.declared.framing.Outcome.the-variants as outcomes
 use Rattle.records.specs.Outcome.{andThen}
 use Rattle.records.specs.declared.Checked.{Checked}
-use Rattle.rules.specs.Verdict.{moduleRules, verdictOf}
+use Rattle.rules.specs.Verdict.{moduleRules}
 use Rattle.records.specs.Checked.{checkedOf, checked-verdict, checked-tables, checked-fits, checked-length}
 use Rattle.checker.specs.Rules.{module-rules}
 use Rattle.checker.specs.Ranges.{known}

@@ -1,7 +1,7 @@
 -- `objects::all_ends` meets its contract: every page before p is right. Assumes nothing.
 use borrow.Author.Needs.{needs}
 use native.Mathlib.Omega.{arith}
-use Prim.Native.Nat.{ℕ, _+_, _-_, _<_, _≤_}
+use Prim.Native.Nat.{ℕ, _-_, _<_, _≤_}
 use Rattle.stack.specs.Tells.{scan-none, scan-more, scan-broken, scan-ended}
 use Rattle.objects.specs.Ends.{EndsOk}
 use Rattle.objects.proofs.all_ends.Statement.{statement}

@@ -1,6 +1,5 @@
 -- `objects::ends_ok` meets its contract: every page. Assumes nothing.
-use native.Mathlib.Omega.{arith}
-use mathlib.Core.Path.{_≡_, refl, sym, ap, _∙_}
+use mathlib.Core.Path.{_∙_}
 use Rattle.objects.specs.Ends.{all-by}
 use borrow.Author.Needs.{needs}
 use Rattle.objects.proofs.ends_ok.Statement.{statement}

@@ -1,8 +1,8 @@
 -- `objects::frame_of` meets its contract: no higher frame has it. Assumes nothing.
 use borrow.Author.Needs.{needs}
 use native.Mathlib.Omega.{arith}
-use Prim.Native.Nat.{ℕ, _+_, _-_, _<_, _≤_}
-use mathlib.Core.Path.{_≡_, refl, sym, ap, _∙_}
+use Prim.Native.Nat.{_≤_}
+use mathlib.Core.Path.{_≡_, refl, sym, _∙_}
 use Rattle.objects.specs.Homes.{frameOf, frame-hit, frame-miss, frame-end}
 use Rattle.objects.proofs.frame_of.Statement.{statement}
 use Rattle.objects.proofs.frame_of.Tie as tie

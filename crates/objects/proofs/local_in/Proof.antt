@@ -1,5 +1,4 @@
 -- `objects::local_in` meets its contract: the last of its local entries. Assumes nothing.
-use native.Mathlib.Omega.{arith}
 use Rattle.objects.specs.Homes.{local-by}
 use borrow.Author.Needs.{needs}
 use Rattle.objects.proofs.local_in.Statement.{statement}

@@ -1,8 +1,8 @@
 -- `objects::local_of` meets its contract: no later entry leads to r. Assumes nothing.
 use borrow.Author.Needs.{needs}
 use native.Mathlib.Omega.{arith}
-use Prim.Native.Nat.{ℕ, _+_, _-_, _<_, _≤_}
-use mathlib.Core.Path.{_≡_, refl, sym, ap, _∙_}
+use Prim.Native.Nat.{_≤_}
+use mathlib.Core.Path.{_≡_, refl, sym, _∙_}
 use Rattle.rules.specs.State.{frameMap}
 use Rattle.objects.specs.Homes.{lastOf, last-hit, last-miss, last-end}
 use Rattle.objects.proofs.local_of.Statement.{statement}

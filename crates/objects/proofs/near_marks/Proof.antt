@@ -1,7 +1,7 @@
 -- `objects::near_marks` meets its contract: every place before j is right. Assumes nothing.
 use borrow.Author.Needs.{needs}
 use native.Mathlib.Omega.{arith}
-use Prim.Native.Nat.{ℕ, _+_, _-_, _<_, _≤_}
+use Prim.Native.Nat.{ℕ, _-_, _<_}
 use Rattle.stack.specs.Tells.{scan-more, scan-broken, scan-ended}
 use Rattle.objects.specs.Ends.{EndMark, mark-inside}
 use Rattle.objects.proofs.near_marks.Statement.{statement}

@@ -1,6 +1,5 @@
 -- `objects::object` meets its contract: by whether the page has an owner. Assumes nothing.
-use native.Mathlib.Omega.{arith}
-use mathlib.Core.Path.{_≡_, refl, sym, ap, _∙_}
+use mathlib.Core.Path.{refl, _∙_}
 use Rattle.objects.specs.Homes.{object-none, object-some}
 use borrow.Author.Needs.{needs}
 use Rattle.objects.proofs.object.Statement.{statement}

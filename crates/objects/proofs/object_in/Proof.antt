@@ -1,6 +1,6 @@
 -- `objects::object_in` meets its contract: by whether an object lies there. Assumes nothing.
 use native.Mathlib.Omega.{arith}
-use mathlib.Core.Path.{_≡_, refl, sym, ap, _∙_}
+use mathlib.Core.Path.{refl}
 use native.Mathlib.Nat.{div-add-mod'}
 use Rattle.objects.specs.Homes.{part-none, part-some, part-past}
 use borrow.Author.Needs.{needs}

@@ -1,6 +1,5 @@
 -- `objects::page_ends` meets its contract: by whether the page has an owner. Assumes nothing.
-use native.Mathlib.Omega.{arith}
-use mathlib.Core.Path.{_≡_, refl, sym, ap, _∙_}
+use mathlib.Core.Path.{_∙_}
 use Rattle.stack.specs.Tells.{tells-yes}
 use Rattle.objects.specs.Ends.{ends-none, ends-some}
 use borrow.Author.Needs.{needs}

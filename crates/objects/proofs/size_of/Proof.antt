@@ -1,6 +1,6 @@
 -- `objects::size_of` meets its contract: the size of its term. Assumes nothing.
 use native.Mathlib.Omega.{arith}
-use mathlib.Core.Path.{_≡_, refl, sym, ap, _∙_}
+use mathlib.Core.Path.{ap}
 use Rattle.terms.specs.declared.Extent.{Extent}
 use Rattle.objects.specs.Homes.{size-none, size-some}
 use borrow.Author.Needs.{needs}

@@ -1,11 +1,10 @@
 -- `records::filler_fault` meets its contract: the walk stays in the filler, and every record passed is zero. Assumes nothing.
-use mathlib.Core.Path.{_≡_, refl, sym, ap, _∙_}
+use mathlib.Core.Path.{refl, _∙_}
 use Prim.Native.Nat.{_≤_, _-_}
 use native.Mathlib.Omega.{arith}
 use borrow.Author.Needs.{needs}
 use borrow.Author.Tests.{not-true, not-false}
 use Rattle.walk.specs.Tables.{records-few}
-use Rattle.rules.specs.Walk.{scan}
 use Rattle.records.specs.Records.{Filled, filler-test, filled-more, record-fails, none-fails}
 use Rattle.records.proofs.filler_fault.Statement.{statement}
 use Rattle.records.proofs.filler_fault.Tie as tie

@@ -1,18 +1,17 @@
 -- The cycle of primitives, as that of sizes: `term_prim` at (k, p) asks `struct_prim` for structs below k and itself for lower
 -- places; `struct_prim` asks for terms with the structs below it. So 1024 k + p falls for a term, and a struct N lies between, at
 -- 1024 N + 512. Assumes nothing.
-use Prim.Native.Nat.{_+_, _*_, _-_, _/_, _%_, _≤_}
+use Prim.Native.Nat.{_+_, _*_, _-_, _/_, _≤_}
 use Rattle.rules.specs.File.{entryOf}
 use Rattle.rules.specs.declared.Record.{Record}
-use Rattle.runs.specs.Positions.{Found, keeps-args, found-single, single-int, single-ptr, struct-none, struct-size, struct-count, found-struct, element-fits, element-some, core-inside, core-fits, offset-le, found-arr, before, field, fields-end, field-fits, size-next, count-next, sums-small, field-inside, core-in-field, found-field}
-use Rattle.runs.specs.Table.{termLayout, structLayout, entryAt, coreAt, Core, Few, exactOf}
+use Rattle.runs.specs.Positions.{keeps-args, found-single, single-int, single-ptr, struct-none, struct-size, struct-count, found-struct, element-fits, element-some, core-inside, core-fits, offset-le, found-arr, before, field, fields-end, field-fits, size-next, count-next, sums-small, field-inside, core-in-field, found-field}
+use Rattle.runs.specs.Table.{termLayout, Core, Few, exactOf}
 use Rattle.runs.specs.TableLaws.{known-less, extent-small}
 use Rattle.terms.specs.Extents.{fieldPlace, fieldCount, firsts}
 use Rattle.terms.specs.HeadLaws.{fair-at}
 use Rattle.terms.specs.Heads.{headOf, placeOf}
 use Rattle.terms.specs.declared.Extent.{Extent}
 use Rattle.terms.specs.declared.Head.the-variants.{Arr}
-use Rattle.terms.specs.declared.Head.{Head}
 use borrow.Author.Needs.{needs}
 use denote.Ref.{now}
 use lib.ListN.{length}

@@ -5,7 +5,7 @@ use Rattle.terms.specs.Compare.{getD-any, byteUnder}
 use borrow.Author.Needs.{needs}
 use denote.Ref.{now}
 use lib.ListN.{List·getD-eq-default}
-use mathlib.Core.Path.{_≡_, sym, ap, _∙_}
+use mathlib.Core.Path.{sym, ap, _∙_}
 use Rattle.runs.proofs.argument.Statement.{statement}
 use Rattle.runs.proofs.argument.Tie as tie
 

@@ -3,7 +3,6 @@
 use Rattle.runs.specs.Positions.{argByte, arg-out, eight}
 use borrow.Author.Needs.{needs}
 use denote.Ref.{now}
-use mathlib.Core.Path.{_≡_}
 use native.Mathlib.Omega.{arith}
 use Rattle.runs.proofs.arguments.Statement.{statement}
 use Rattle.runs.proofs.arguments.Tie as tie

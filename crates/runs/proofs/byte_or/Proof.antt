@@ -4,7 +4,7 @@ use Rattle.terms.specs.Compare.{getD-any}
 use borrow.Author.Needs.{needs}
 use denote.Ref.{now}
 use lib.ListN.{List·getD-eq-default}
-use mathlib.Core.Path.{_≡_, sym}
+use mathlib.Core.Path.{sym}
 use Rattle.runs.proofs.byte_or.Statement.{statement}
 use Rattle.runs.proofs.byte_or.Tie as tie
 

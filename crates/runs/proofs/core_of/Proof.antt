@@ -6,7 +6,7 @@ use Rattle.runs.specs.TableLaws.{core-self, core-one}
 use Rattle.terms.specs.HeadLaws.{fair-at}
 use borrow.Author.Needs.{needs}
 use denote.Ref.{now}
-use mathlib.Core.Path.{_≡_, sym, _∙_, subst}
+use mathlib.Core.Path.{sym, _∙_, subst}
 use Rattle.runs.proofs.core_of.Statement.{statement}
 use Rattle.runs.proofs.core_of.Tie as tie
 

@@ -6,7 +6,7 @@ use Rattle.rules.specs.Types.{variable, Tree}
 use Rattle.terms.specs.declared.Extent.{Extent}
 use borrow.Author.Needs.{needs}
 use denote.Ref.{now}
-use mathlib.Core.Path.{_≡_, ap, _∙_}
+use mathlib.Core.Path.{ap, _∙_}
 use Rattle.runs.proofs.element.Statement.{statement}
 use Rattle.runs.proofs.element.Tie as tie
 

@@ -4,7 +4,7 @@ use Rattle.runs.specs.TableLaws.{entry-none, entry-some}
 use borrow.Author.Needs.{needs}
 use denote.Ref.{now}
 use lib.ListN.{List·getD-eq-default}
-use mathlib.Core.Path.{_≡_, refl, sym}
+use mathlib.Core.Path.{refl, sym}
 use Rattle.runs.proofs.extent_in.Statement.{statement}
 use Rattle.runs.proofs.extent_in.Tie as tie
 

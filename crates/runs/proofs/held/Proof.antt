@@ -5,7 +5,6 @@ use Rattle.terms.specs.Compare.{byteUnder}
 use borrow.Author.Needs.{needs}
 use denote.Ref.{now}
 use lib.ListN.{List·getD-eq-default}
-use mathlib.Core.Path.{_≡_}
 use native.Mathlib.Omega.{arith}
 use Rattle.runs.proofs.held.Statement.{statement}
 use Rattle.runs.proofs.held.Tie as tie

@@ -1,6 +1,6 @@
 -- `runs::lower` meets its contract: what is sought lies between low and high.
 
-use Prim.Native.Nat.{ℕ, _-_, _/_, _+_, _<_, _≤_}
+use Prim.Native.Nat.{ℕ, _-_, _/_, _+_}
 use Rattle.runs.specs.Runs.{Lower, lower-start, lower-up, lower-down, layout-rising}
 use Rattle.runs.specs.Table.{termLayout}
 use borrow.Author.Needs.{needs}

@@ -1,6 +1,6 @@
 -- `runs::place_prim` meets its contract: the primitive is that of the term's core.
 
-use Prim.Native.Nat.{ℕ, _<_, _≤_, _+_}
+use Prim.Native.Nat.{ℕ, _≤_}
 use Rattle.layout.specs.Prims.{nth}
 use Rattle.rules.specs.Flat.{Layout, count}
 use Rattle.rules.specs.Types.{variable}

@@ -1,6 +1,5 @@
 -- `runs::position_at` meets its contract: the first position not nearer, if it is at that distance.
 
-use Prim.Native.Nat.{ℕ}
 use Rattle.rules.specs.Decode.{moduleOf}
 use Rattle.rules.specs.Flat.{Layout, count, positionAt, flat}
 use Rattle.rules.specs.Types.{variable}

@@ -1,13 +1,10 @@
 -- `runs::run_places` meets its contract: the first i primitives are the same.
 
-use Prim.Native.Nat.{ℕ, _<_, _≤_, _-_}
-use Rattle.rules.specs.Flat.{Layout}
-use Rattle.rules.specs.Types.{variable}
+use Prim.Native.Nat.{_≤_, _-_}
 use Rattle.runs.specs.Runs.{RunTo, run-more, run-stop, run-end}
 use Rattle.runs.specs.Table.{termLayout}
 use borrow.Author.Needs.{needs}
 use denote.Ref.{now}
-use mathlib.Core.Path.{_≡_}
 use native.Mathlib.Omega.{arith}
 use Rattle.runs.proofs.run_places.Statement.{statement}
 use Rattle.runs.proofs.run_places.Tie as tie

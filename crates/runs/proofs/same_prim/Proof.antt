@@ -1,11 +1,10 @@
 -- `runs::same_prim` meets its contract: the distances, and the terms.
 
-use Rattle.rules.specs.Types.{RegionKind, variable, live}
+use Rattle.rules.specs.Types.{RegionKind}
 use Rattle.runs.specs.Runs.{of-kinds, placed-same, eqb-minus, eqb-less}
 use Rattle.terms.specs.Compare.{placesSame}
 use borrow.Author.Needs.{needs}
 use denote.Ref.{now}
-use lib.Dec.{eqb}
 use mathlib.Core.Bool.{Bool, _&&_}
 use mathlib.Core.Path.{_≡_, sym, ap, ap₂, _∙_}
 use Rattle.runs.proofs.same_prim.Statement.{statement}

@@ -3,7 +3,6 @@
 use Rattle.runs.specs.Runs.{stands-far, stands-other, stands-in}
 use borrow.Author.Needs.{needs}
 use denote.Ref.{now}
-use mathlib.Core.Path.{_≡_}
 use native.Mathlib.Omega.{arith}
 use Rattle.runs.proofs.stands.Statement.{statement}
 use Rattle.runs.proofs.stands.Tie as tie

@@ -1,5 +1,4 @@
 -- `shape::shape_ok` meets its contract: its four tests. Assumes nothing.
-use native.Mathlib.Omega.{arith}
 use Rattle.shape.specs.Shape.{shape-by}
 use borrow.Author.Needs.{needs}
 use Rattle.shape.proofs.shape_ok.Statement.{statement}

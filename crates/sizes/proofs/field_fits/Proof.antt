@@ -1,8 +1,8 @@
 -- `sizes::field_fits` meets its contract: by the callees' contracts.
-use mathlib.Core.Path.{_≡_, refl, sym, ap, ap₂, _∙_}
+use mathlib.Core.Path.{ap₂, _∙_}
 use denote.Ref.{now}
 use Prim.Native.Nat.{ℕ}
-use Rattle.rules.specs.Decode.{structStart, moduleOf}
+use Rattle.rules.specs.Decode.{moduleOf}
 use Rattle.words.specs.Decide.{does}
 use Rattle.rules.specs.Types.{decUses}
 use Rattle.sizes.specs.Sizes.{fieldFits}

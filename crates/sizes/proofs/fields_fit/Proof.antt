@@ -1,7 +1,7 @@
 -- `sizes::fields_fit` meets its contract: the fields passed fit.
-use mathlib.Core.Path.{_≡_, refl, sym, ap, ap₂, _∙_}
+use mathlib.Core.Path.{_≡_, ap}
 use Prim.Native.Nat.{ℕ, _<_, _≤_, _-_}
-use mathlib.Core.Bool.{Bool, true, false}
+use mathlib.Core.Bool.{true}
 use denote.Ref.{now}
 use borrow.Author.Count.{below-more}
 use Rattle.functions.specs.Does.{scan-broken, scan-ended}

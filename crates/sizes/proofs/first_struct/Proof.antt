@@ -1,10 +1,9 @@
 -- `sizes::first_struct` meets its contract: the structs passed keep refusal 5's rules.
-use mathlib.Core.Path.{_≡_, refl, sym, ap, ap₂, _∙_}
+use mathlib.Core.Path.{_≡_, sym}
 use Prim.Native.Nat.{ℕ, _<_, _≤_, _-_}
-use mathlib.Core.Bool.{Bool, true, false}
+use mathlib.Core.Bool.{true}
 use denote.Ref.{now}
 use borrow.Author.Count.{below-more}
-use Rattle.words.specs.First.{first}
 use Rattle.words.specs.FirstLaws.{first-found, first-none}
 use Rattle.rules.specs.Decode.{moduleOf}
 use Rattle.rules.specs.Verdict.{structTest}

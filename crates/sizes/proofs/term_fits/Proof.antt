@@ -1,5 +1,5 @@
 -- `sizes::term_fits` meets its contract: by the callees' contracts.
-use mathlib.Core.Path.{_≡_, refl, sym, ap, ap₂, _∙_}
+use mathlib.Core.Path.{ap, ap₂, _∙_}
 use denote.Ref.{now}
 use mathlib.Core.Bool.{_&&_}
 use lib.Dec.{leb}

@@ -5,13 +5,12 @@ use Prim.Native.Nat.{_+_, _*_, _-_, _≤_}
 use Rattle.rules.specs.File.{entryOf}
 use Rattle.rules.specs.declared.Record.{Record}
 use Rattle.terms.specs.ExtentLaws.{term-int, term-ptr, term-arr, term-known, term-unknown, struct-all, so-begin, so-next, over-is, so-stop}
-use Rattle.terms.specs.Extents.{Small, soFar, fieldCount, fieldPlace, times, plus}
-use Rattle.terms.specs.HeadLaws.{Fair, fair-at}
-use Rattle.terms.specs.Heads.{headOf, placeOf}
-use Rattle.terms.specs.declared.Extent.{Extent}
+use Rattle.terms.specs.Extents.{Small, soFar, fieldCount, fieldPlace, times}
+use Rattle.terms.specs.HeadLaws.{fair-at}
+use Rattle.terms.specs.Heads.{placeOf}
 use borrow.Author.Needs.{needs}
 use denote.Ref.{now}
-use mathlib.Core.Path.{_≡_, refl, sym, ap, _∙_}
+use mathlib.Core.Path.{_≡_, sym, ap, _∙_}
 use native.Mathlib.Omega.{arith}
 use Prim.Native.Nat.{ℕ, _<_}
 use borrow.Fn.Kinds.{In}

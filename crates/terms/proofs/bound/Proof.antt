@@ -1,15 +1,15 @@
 -- `terms::bound` meets its contract: the bound so far and that of the term at place i make the whole.
 
-use Prim.Native.Nat.{ℕ, max, _<_, _≤_}
+use Prim.Native.Nat.{ℕ, max}
 use Rattle.rules.specs.Decode.{moduleOf}
-use Rattle.terms.specs.Bounds.{bound, bound-step, bound-none, headBound}
+use Rattle.terms.specs.Bounds.{bound, bound-step, bound-none}
 use Rattle.terms.specs.Compare.{inner-less}
 use Rattle.terms.specs.ExtentLaws.{module-term}
 use Rattle.terms.specs.HeadLaws.{fair-narrow}
 use Rattle.terms.specs.Heads.{treeAt}
 use borrow.Author.Needs.{needs}
 use denote.Ref.{now}
-use mathlib.Core.Path.{_≡_, sym, ap, _∙_}
+use mathlib.Core.Path.{_≡_, ap}
 use native.Mathlib.Omega.{arith}
 use Rattle.terms.proofs.bound.Statement.{statement}
 use Rattle.terms.proofs.bound.Tie as tie

@@ -6,7 +6,7 @@ use Rattle.terms.specs.Compare.{term-identity, does-yes}
 use Rattle.rules.specs.Decode.{moduleOf}
 use borrow.Author.Needs.{needs}
 use denote.Ref.{now}
-use mathlib.Core.Path.{_≡_, refl, sym, ap, ap₂, _∙_}
+use mathlib.Core.Path.{refl, sym, ap₂, _∙_}
 use native.Mathlib.Omega.{arith}
 use Rattle.terms.proofs.equal.Statement.{statement}
 use Rattle.terms.proofs.equal.Tie as tie

@@ -6,7 +6,7 @@ use Rattle.rules.specs.Types.{variable, Tree, sub, decTree}
 use Rattle.terms.specs.Compare.{under, term-identity}
 use borrow.Author.Needs.{needs}
 use denote.Ref.{now}
-use mathlib.Core.Path.{_≡_, sym, ap, _∙_}
+use mathlib.Core.Path.{ap, _∙_}
 use native.Mathlib.Omega.{arith}
 use Rattle.terms.proofs.equal_under.Statement.{statement}
 use Rattle.terms.proofs.equal_under.Tie as tie

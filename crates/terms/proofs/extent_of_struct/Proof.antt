@@ -3,7 +3,7 @@
 use Rattle.terms.specs.ExtentLaws.{extent-struct, extent-no-struct}
 use borrow.Author.Needs.{needs}
 use denote.Ref.{now}
-use mathlib.Core.Path.{_≡_, sym, ap, _∙_}
+use mathlib.Core.Path.{_∙_}
 use native.Mathlib.Omega.{arith}
 use Rattle.terms.proofs.extent_of_struct.Statement.{statement}
 use Rattle.terms.proofs.extent_of_struct.Tie as tie

@@ -4,7 +4,7 @@ use Rattle.terms.specs.ExtentLaws.{extent-term}
 use Rattle.terms.specs.Extents.{termExtent}
 use borrow.Author.Needs.{needs}
 use denote.Ref.{now}
-use mathlib.Core.Path.{_≡_, sym, ap, _∙_}
+use mathlib.Core.Path.{ap, _∙_}
 use Rattle.terms.proofs.extent_of_term.Statement.{statement}
 use Rattle.terms.proofs.extent_of_term.Tie as tie
 

@@ -1,9 +1,8 @@
 -- `terms::form` meets its contract: by the kind of the term's record.
 use Rattle.terms.specs.Readers.{formBy, form-in, form-out}
-use Prim.Native.Nat.{ℕ}
 use borrow.Author.Needs.{needs}
 use denote.Ref.{now}
-use mathlib.Core.Path.{_≡_, ap, _∙_}
+use mathlib.Core.Path.{ap, _∙_}
 use native.Mathlib.Omega.{arith}
 use Rattle.terms.proofs.form.Statement.{statement}
 use Rattle.terms.proofs.form.Tie as tie

@@ -3,7 +3,7 @@
 use Rattle.terms.specs.Bounds.{headBound}
 use Rattle.terms.specs.HeadLaws.{narrow-at}
 use borrow.Author.Needs.{needs}
-use mathlib.Core.Path.{_≡_, sym, ap, _∙_}
+use mathlib.Core.Path.{sym, ap, _∙_}
 use native.Mathlib.Numerals.{add-one}
 use native.Mathlib.Omega.{arith}
 use Rattle.terms.proofs.head_bound.Statement.{statement}

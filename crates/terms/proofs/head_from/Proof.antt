@@ -2,7 +2,7 @@
 
 use Rattle.terms.specs.HeadLaws.{head-int, head-ptr, head-arr, head-struct}
 use borrow.Author.Needs.{needs}
-use mathlib.Core.Path.{_≡_, sym, _∙_}
+use mathlib.Core.Path.{sym, _∙_}
 use Rattle.terms.proofs.head_from.Statement.{statement}
 use Rattle.terms.proofs.head_from.Tie as tie
 

@@ -2,9 +2,8 @@
 
 use Prim.Native.Nat.{_<_, _≤_, _+_}
 use Rattle.terms.specs.ExtentLaws.{plus-over, plus-fits}
-use Rattle.terms.specs.Extents.{plus}
 use borrow.Author.Needs.{needs}
-use mathlib.Core.Path.{_≡_, sym, _∙_}
+use mathlib.Core.Path.{sym, _∙_}
 use native.Mathlib.Omega.{arith}
 use Rattle.terms.proofs.plus.Statement.{statement}
 use Rattle.terms.proofs.plus.Tie as tie

@@ -4,7 +4,7 @@ use Prim.Native.Nat.{ℕ}
 use Rattle.terms.specs.Readers.{primitive-reads}
 use borrow.Author.Needs.{needs}
 use lib.Dec.{leb}
-use mathlib.Core.Path.{_≡_, ap, _∙_}
+use mathlib.Core.Path.{ap, _∙_}
 use Rattle.terms.proofs.primitive.Statement.{statement}
 use Rattle.terms.proofs.primitive.Tie as tie
 

@@ -4,7 +4,7 @@ use Rattle.terms.specs.Compare.{getD-any}
 use borrow.Author.Needs.{needs}
 use denote.Ref.{now}
 use lib.ListN.{List·getD-eq-default}
-use mathlib.Core.Path.{_≡_, sym, _∙_}
+use mathlib.Core.Path.{sym, _∙_}
 use Rattle.terms.proofs.region.Statement.{statement}
 use Rattle.terms.proofs.region.Tie as tie
 

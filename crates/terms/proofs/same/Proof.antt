@@ -1,11 +1,11 @@
 -- `terms::same` meets its contract: the terms stand at their places.
 
 use Prim.Native.Nat.{ℕ}
-use Rattle.rules.specs.Types.{RegionKind, variable, live}
+use Rattle.rules.specs.Types.{variable, live}
 use Rattle.terms.specs.Compare.{placesSame, places-terms}
 use borrow.Author.Needs.{needs}
 use denote.Ref.{now}
-use mathlib.Core.Path.{_≡_, sym, ap, ap₂, _∙_}
+use mathlib.Core.Path.{ap₂, _∙_}
 use Rattle.terms.proofs.same.Statement.{statement}
 use Rattle.terms.proofs.same.Tie as tie
 

@@ -1,11 +1,11 @@
 -- `terms::same_places` meets its contract: what is inside the heads that are the same decides.
 
-use Prim.Native.Nat.{ℕ, _+_, _<_, _≤_}
-use Rattle.rules.specs.Types.{RegionKind, variable, live}
+use Prim.Native.Nat.{ℕ, _+_}
+use Rattle.rules.specs.Types.{variable, live}
 use Rattle.terms.specs.Compare.{placesSame, places-on, places-differ, walk-less, walk-end}
 use borrow.Author.Needs.{needs}
 use denote.Ref.{now}
-use mathlib.Core.Path.{_≡_, refl, sym, ap, ap₂, _∙_}
+use mathlib.Core.Path.{_≡_, refl, sym, ap₂, _∙_}
 use native.Mathlib.Omega.{arith}
 use Rattle.terms.proofs.same_places.Statement.{statement}
 use Rattle.terms.proofs.same_places.Tie as tie

@@ -3,7 +3,7 @@
 use Prim.Native.Nat.{_<_, _≤_, _*_}
 use Rattle.terms.specs.ExtentLaws.{times-over, times-fits}
 use borrow.Author.Needs.{needs}
-use mathlib.Core.Path.{_≡_, sym, _∙_}
+use mathlib.Core.Path.{sym, _∙_}
 use native.Mathlib.Nat.{mul-le-mul}
 use native.Mathlib.Omega.{arith}
 use Rattle.terms.proofs.times.Statement.{statement}

@@ -1,7 +1,7 @@
 -- `values::all_registers` meets its contract: every frame before k is right. Assumes nothing.
 use borrow.Author.Needs.{needs}
 use native.Mathlib.Omega.{arith}
-use Prim.Native.Nat.{ℕ, _+_, _-_, _<_, _≤_}
+use Prim.Native.Nat.{ℕ, _-_, _<_, _≤_}
 use Rattle.stack.specs.Tells.{scan-none, scan-more, scan-broken, scan-ended}
 use Rattle.values.specs.Registers.{RegistersOk}
 use Rattle.values.proofs.all_registers.Statement.{statement}

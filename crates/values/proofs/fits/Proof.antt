@@ -1,5 +1,4 @@
 -- `values::fits` meets its contract: by the width. Assumes nothing.
-use borrow.Author.Needs.{needs}
 use native.Mathlib.Omega.{arith}
 use Rattle.stack.specs.Tells.{tells-yes}
 use Rattle.values.specs.Value.{fits-at, fits-all}

@@ -1,7 +1,7 @@
 -- `values::frame_registers` meets its contract: every register before a is right. Assumes nothing.
 use borrow.Author.Needs.{needs}
 use native.Mathlib.Omega.{arith}
-use Prim.Native.Nat.{ℕ, _+_, _-_, _<_, _≤_}
+use Prim.Native.Nat.{ℕ, _-_, _<_, _≤_}
 use Rattle.stack.specs.Tells.{scan-none, scan-more, scan-broken, scan-ended}
 use Rattle.values.specs.Registers.{RegisterOk, registers-by}
 use Rattle.values.proofs.frame_registers.Statement.{statement}

@@ -1,5 +1,4 @@
 -- `values::map_of` meets its contract: its seven entries. Assumes nothing.
-use native.Mathlib.Omega.{arith}
 use Rattle.runs.specs.Maps.{map-is}
 use borrow.Author.Needs.{needs}
 use Rattle.values.proofs.map_of.Statement.{statement}

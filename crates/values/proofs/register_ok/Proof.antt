@@ -1,5 +1,4 @@
 -- `values::register_ok` meets its contract: its term and its number. Assumes nothing.
-use native.Mathlib.Omega.{arith}
 use Rattle.values.specs.Registers.{register-by}
 use borrow.Author.Needs.{needs}
 use Rattle.values.proofs.register_ok.Statement.{statement}

@@ -1,6 +1,6 @@
 -- `values::register_term` meets its contract: the entry of record 9. Assumes nothing.
 use native.Mathlib.Omega.{arith}
-use mathlib.Core.Path.{_≡_, refl, sym, ap, _∙_}
+use mathlib.Core.Path.{_∙_}
 use Rattle.stack.specs.Chain.{start-few}
 use Rattle.walk.specs.Code.{registers-far}
 use Rattle.values.specs.Registers.{term-is}

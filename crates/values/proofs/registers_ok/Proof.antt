@@ -1,6 +1,5 @@
 -- `values::registers_ok` meets its contract: every frame. Assumes nothing.
-use native.Mathlib.Omega.{arith}
-use mathlib.Core.Path.{_≡_, refl, sym, ap, _∙_}
+use mathlib.Core.Path.{_∙_}
 use Rattle.values.specs.Registers.{all-by}
 use borrow.Author.Needs.{needs}
 use Rattle.values.proofs.registers_ok.Statement.{statement}

@@ -1,12 +1,11 @@
 -- `functions::declared::entry` meets its contract: by the callees' contracts.
-use mathlib.Core.Path.{_≡_, refl, sym, ap, ap₂, _∙_}
+use mathlib.Core.Path.{ap, ap₂, _∙_}
 use denote.Ref.{now}
 use Rattle.rules.specs.declared.Record.{Record}
 use Prim.Native.Nat.{ℕ}
 use mathlib.Core.Bool.{_&&_}
 use lib.Dec.{eqb}
-use Rattle.functions.specs.Functions.{functionAt}
-use Rattle.functions.specs.Declared.{parametersFit, entry-fits}
+use Rattle.functions.specs.Declared.{entry-fits}
 use Rattle.rules.specs.Decode.{moduleOf}
 use Rattle.rules.specs.File.{returnOf}
 use Rattle.words.specs.Decide.{does}

@@ -1,7 +1,7 @@
 -- `functions::declared::parameter_fits` meets its contract: by the callees' contracts.
-use mathlib.Core.Path.{_≡_, refl, sym, ap, ap₂, _∙_}
+use mathlib.Core.Path.{ap, _∙_}
 use denote.Ref.{now}
-use Rattle.functions.specs.Declared.{parameterFits, parameter-fits}
+use Rattle.functions.specs.Declared.{parameter-fits}
 use Rattle.rules.specs.Decode.{moduleOf}
 use Rattle.words.specs.Decide.{does}
 use Rattle.rules.specs.Types.{int, decTree}

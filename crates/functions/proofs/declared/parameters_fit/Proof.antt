@@ -1,14 +1,14 @@
 -- `functions::declared::parameters_fit` meets its contract: the parameters passed are i32.
-use mathlib.Core.Path.{_≡_, refl, sym, ap, ap₂, _∙_}
+use mathlib.Core.Path.{_≡_, sym, ap, _∙_}
 use Prim.Native.Nat.{ℕ, _<_, _≤_, _-_}
-use mathlib.Core.Bool.{Bool, true, false}
+use mathlib.Core.Bool.{true}
 use denote.Ref.{now}
 use borrow.Author.Count.{below-more}
 use Rattle.functions.specs.Does.{scan-broken, scan-ended}
 use Rattle.rules.specs.declared.Record.{Record}
 use Rattle.functions.specs.Functions.{functionAt, params-at}
 use Rattle.functions.specs.Declared.{parameterFits, parametersFit}
-use Rattle.rules.specs.File.{recordOf, regionsOf, parametersOf}
+use Rattle.rules.specs.File.{parametersOf}
 use borrow.Author.Needs.{needs}
 use native.Mathlib.Omega.{arith}
 use Rattle.functions.proofs.declared.parameters_fit.Statement.{statement}

@@ -1,8 +1,8 @@
 -- `functions::declared::region_fits` meets its contract: by the callees' contracts.
-use mathlib.Core.Path.{_≡_, refl, sym, ap, ap₂, _∙_}
+use mathlib.Core.Path.{ap, ap₂, _∙_}
 use denote.Ref.{now}
-use Rattle.functions.specs.Functions.{scopeIn, regionTerm}
-use Rattle.functions.specs.Declared.{regionFits, region-fits}
+use Rattle.functions.specs.Functions.{scopeIn}
+use Rattle.functions.specs.Declared.{region-fits}
 use Rattle.rules.specs.Decode.{moduleOf}
 use Rattle.words.specs.Decide.{does}
 use Rattle.rules.specs.Types.{decUses}

@@ -1,14 +1,14 @@
 -- `functions::declared::regions_fit` meets its contract: the regions passed fit.
-use mathlib.Core.Path.{_≡_, refl, sym, ap, ap₂, _∙_}
+use mathlib.Core.Path.{_≡_, sym, ap, _∙_}
 use Prim.Native.Nat.{ℕ, _<_, _≤_, _-_}
-use mathlib.Core.Bool.{Bool, true, false}
+use mathlib.Core.Bool.{true}
 use denote.Ref.{now}
 use borrow.Author.Count.{below-more}
 use Rattle.functions.specs.Does.{scan-broken, scan-ended}
 use Rattle.rules.specs.declared.Record.{Record}
 use Rattle.functions.specs.Functions.{functionAt, regions-at}
 use Rattle.functions.specs.Declared.{regionFits, regionsFit}
-use Rattle.rules.specs.File.{recordOf, regionsOf, parametersOf}
+use Rattle.rules.specs.File.{regionsOf}
 use borrow.Author.Needs.{needs}
 use native.Mathlib.Omega.{arith}
 use Rattle.functions.proofs.declared.regions_fit.Statement.{statement}

@@ -1,10 +1,9 @@
 -- `functions::declared::register_fits` meets its contract: by the callees' contracts.
-use mathlib.Core.Path.{_≡_, refl, sym, ap, ap₂, _∙_}
-use mathlib.Core.Bool.{Bool, true, false}
+use mathlib.Core.Path.{ap, ap₂, _∙_}
 use denote.Ref.{now}
 use mathlib.Core.Bool.{_&&_}
-use Rattle.functions.specs.Functions.{scopeIn, registerTerm}
-use Rattle.functions.specs.Declared.{registerFits, register-fits}
+use Rattle.functions.specs.Functions.{scopeIn}
+use Rattle.functions.specs.Declared.{register-fits}
 use Rattle.rules.specs.Decode.{moduleOf}
 use Rattle.rules.specs.File.{parametersOf}
 use Rattle.words.specs.Decide.{does}

@@ -1,14 +1,13 @@
 -- `functions::declared::registers_fit` meets its contract: the registers passed fit.
-use mathlib.Core.Path.{_≡_, refl, sym, ap, ap₂, _∙_}
+use mathlib.Core.Path.{_≡_, sym, ap, _∙_}
 use Prim.Native.Nat.{ℕ, _<_, _≤_, _-_}
-use mathlib.Core.Bool.{Bool, true, false}
+use mathlib.Core.Bool.{true}
 use denote.Ref.{now}
 use borrow.Author.Count.{below-more}
 use Rattle.functions.specs.Does.{scan-broken, scan-ended}
 use Rattle.rules.specs.declared.Record.{Record}
 use Rattle.functions.specs.Functions.{functionAt, registers-at}
 use Rattle.functions.specs.Declared.{registerFits, registersFit}
-use Rattle.rules.specs.File.{recordOf, regionsOf, parametersOf}
 use borrow.Author.Needs.{needs}
 use native.Mathlib.Omega.{arith}
 use Rattle.functions.proofs.declared.registers_fit.Statement.{statement}

@@ -1,9 +1,8 @@
 -- `functions::declared::result_fits` meets its contract: by the callees' contracts.
-use mathlib.Core.Path.{_≡_, refl, sym, ap, ap₂, _∙_}
-use mathlib.Core.Bool.{Bool, true, false}
+use mathlib.Core.Path.{ap, ap₂, _∙_}
 use denote.Ref.{now}
 use mathlib.Core.Bool.{_&&_}
-use Rattle.functions.specs.Declared.{resultFits, result-fits}
+use Rattle.functions.specs.Declared.{result-fits}
 use Rattle.rules.specs.Decode.{moduleOf}
 use Rattle.rules.specs.File.{returnOf}
 use Rattle.words.specs.Decide.{does}

@@ -1,6 +1,6 @@
 -- `functions::last::last_fits` meets its contract: the kind of the last instruction's record.
-use mathlib.Core.Path.{_≡_, refl, sym, ap, ap₂, _∙_}
-use Prim.Native.Nat.{ℕ, _<_, _≤_, _-_}
+use mathlib.Core.Path.{ap, _∙_}
+use Prim.Native.Nat.{ℕ, _-_}
 use denote.Ref.{now}
 use Rattle.rules.specs.declared.Record.{Record}
 use Rattle.functions.specs.Functions.{placeIn, functionAt}

@@ -1,9 +1,9 @@
 -- `functions::last::last_place` meets its contract: the place of the last instruction.
-use mathlib.Core.Path.{_≡_, refl, sym, ap, ap₂, _∙_}
-use Prim.Native.Nat.{ℕ, _<_, _≤_, _-_}
+use mathlib.Core.Path.{sym, ap, _∙_}
+use Prim.Native.Nat.{ℕ, _-_}
 use denote.Ref.{now}
 use Rattle.rules.specs.declared.Record.{Record}
-use Rattle.functions.specs.Functions.{placeIn, functionAt, length-at}
+use Rattle.functions.specs.Functions.{placeIn, length-at}
 use Rattle.rules.specs.File.{instructionsOf}
 use borrow.Author.Needs.{needs}
 use Rattle.functions.proofs.last.last_place.Statement.{statement}

@@ -1,5 +1,5 @@
 -- `functions::readers::register_term` meets its contract: the entry of its record 9.
-use mathlib.Core.Path.{_≡_, refl, sym, ap, _∙_}
+use mathlib.Core.Path.{_≡_, _∙_}
 use Prim.Native.Nat.{ℕ, _+_, _%_}
 use native.Mathlib.Numerals.{add-one}
 use denote.Ref.{now}

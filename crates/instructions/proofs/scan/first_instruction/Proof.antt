@@ -1,19 +1,12 @@
 -- `instructions::scan::first_instruction` meets its contract: r is the record of instruction i, and those passed keep their rules.
-use mathlib.Core.Path.{_≡_, refl, sym, ap, ap₂, _∙_}
+use mathlib.Core.Path.{_≡_, refl, sym, ap, _∙_}
 use Prim.Native.Nat.{ℕ, _<_, _≤_, _-_}
 use denote.Ref.{now}
-use mathlib.Core.Bool.{Bool, true, false, _&&_, _||_}
-use lib.Dec.{ltb, leb, eqb}
-use Rattle.words.specs.Decide.{does}
+use mathlib.Core.Bool.{true}
 use Rattle.rules.specs.Decode.{moduleOf}
 use Rattle.functions.specs.Functions.{functionAt}
-use Rattle.rules.specs.Types.{variable, Tree, form, numberOf, regionOf, inner, int, sub, decTree, Variable}
-use Rattle.words.specs.Bytes.{Bytes}
-use Rattle.terms.specs.Compare.{under}
-use Rattle.rules.specs.Flat.{flat, decRun, decSame}
 use Rattle.rules.specs.declared.Record.{Record}
 use borrow.Author.Count.{below-more}
-use Rattle.words.specs.First.{first}
 use Rattle.words.specs.FirstLaws.{first-found, first-none}
 use Rattle.rules.specs.Verdict.{instructionTest}
 use Rattle.rules.specs.Decode.{codeAt}

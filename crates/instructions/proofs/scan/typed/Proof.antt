@@ -1,19 +1,11 @@
 -- `instructions::scan::typed` meets its contract: a law for each range of kinds.
-use mathlib.Core.Path.{_≡_, refl, sym, ap, ap₂, _∙_}
-use Prim.Native.Nat.{ℕ, _<_, _≤_, _-_}
+use mathlib.Core.Path.{sym, ap, _∙_}
 use denote.Ref.{now}
-use mathlib.Core.Bool.{Bool, true, false, _&&_, _||_}
-use lib.Dec.{ltb, leb, eqb}
 use Rattle.words.specs.Decide.{does}
 use Rattle.rules.specs.Decode.{moduleOf}
 use Rattle.functions.specs.Functions.{functionAt}
-use Rattle.rules.specs.Types.{variable, Tree, form, numberOf, regionOf, inner, int, sub, decTree, Variable}
-use Rattle.words.specs.Bytes.{Bytes}
-use Rattle.terms.specs.Compare.{under}
-use Rattle.rules.specs.Flat.{flat, decRun, decSame}
 use Rattle.rules.specs.declared.Record.{Record}
 use Rattle.judgment.specs.Kinds.{kind-arithmetic, kind-memory, kind-control}
-use Rattle.rules.specs.File.{recordOf}
 use Rattle.rules.specs.Module.{Instruction}
 use Rattle.rules.specs.Decision.{decTyped}
 use Rattle.rules.specs.Decode.{arithmeticOf, memoryOf}

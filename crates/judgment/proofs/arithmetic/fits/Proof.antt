@@ -1,5 +1,5 @@
 -- `judgment::arithmetic::fits` meets its contract: each width's bound computes; from 4 bytes on every d fits.
-use Prim.Native.Nat.{_≤_, _*_, _^_}
+use Prim.Native.Nat.{_≤_}
 use mathlib.Core.Path.{sym}
 use native.Mathlib.Nat.{lt-of-lt-of-le, pow-le-pow-right}
 use borrow.Author.Tests.{lt-ltb}

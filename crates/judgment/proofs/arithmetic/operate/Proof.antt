@@ -1,5 +1,5 @@
 -- `judgment::arithmetic::operate` meets its contract: by the callees' contracts.
-use mathlib.Core.Path.{_≡_, ap₂, _∙_}
+use mathlib.Core.Path.{ap₂, _∙_}
 use denote.Ref.{now}
 use mathlib.Core.Bool.{_&&_}
 use Rattle.rules.specs.Decode.{moduleOf}

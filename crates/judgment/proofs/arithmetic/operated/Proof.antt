@@ -1,5 +1,5 @@
 -- `judgment::arithmetic::operated` meets its contract: by the operation.
-use mathlib.Core.Path.{_≡_, ap, ap₂, _∙_}
+use mathlib.Core.Path.{ap, ap₂, _∙_}
 use mathlib.Core.Bool.{Bool, _&&_}
 use lib.Dec.{leb}
 use denote.Ref.{now}

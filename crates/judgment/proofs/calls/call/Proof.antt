@@ -1,14 +1,13 @@
 -- `judgment::calls::call` meets its contract: the callee's records, and the regions given.
-use mathlib.Core.Path.{_≡_, refl, sym, ap, ap₂, _∙_}
-use Prim.Native.Nat.{ℕ, _<_, _≤_, _-_}
+use mathlib.Core.Path.{_≡_, sym, ap, ap₂, _∙_}
 use denote.Ref.{now}
 use Rattle.rules.specs.declared.Record.{Record}
-use mathlib.Core.Bool.{Bool, true, false, _&&_, _||_}
-use lib.Dec.{ltb, leb, eqb}
-use mathlib.Core.List.{List, map}
+use mathlib.Core.Bool.{_&&_}
+use lib.Dec.{ltb}
+use mathlib.Core.List.{map}
 use lib.ListN.{take, length-take}
 use Rattle.functions.specs.Functions.{functionAt, start-small, regionParams-at}
-use Rattle.rules.specs.Types.{Variable, region}
+use Rattle.rules.specs.Types.{region}
 use Rattle.rules.specs.Decode.{regionBytes, startOf}
 use Rattle.judgment.specs.Calls.{callParts, call-test, given-regions}
 use native.Mathlib.Omega.{arith}

@@ -1,10 +1,9 @@
 -- `judgment::calls::call_argument` meets its contract: by the callees' contracts.
-use mathlib.Core.Path.{_≡_, refl, sym, ap, ap₂, _∙_}
-use Prim.Native.Nat.{ℕ}
+use mathlib.Core.Path.{ap, ap₂, _∙_}
 use denote.Ref.{now}
-use mathlib.Core.Bool.{Bool, true, false, _&&_, _||_}
+use mathlib.Core.Bool.{_&&_}
 use Rattle.words.specs.Decide.{does}
-use Rattle.rules.specs.Types.{variable, Tree, form, numberOf, regionOf, inner, int, sub, decTree}
+use Rattle.rules.specs.Types.{variable, Tree, sub, decTree}
 use Rattle.functions.specs.Functions.{functionAt}
 use Rattle.judgment.specs.Registers.{isRegister, register-is}
 use Rattle.judgment.specs.Calls.{callArgument}

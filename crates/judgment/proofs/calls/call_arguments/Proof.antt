@@ -1,7 +1,7 @@
 -- `judgment::calls::call_arguments` meets its contract: those passed keep the rule.
-use mathlib.Core.Path.{_≡_, refl, sym, ap, ap₂, _∙_}
+use mathlib.Core.Path.{_≡_, sym, ap, _∙_}
 use Prim.Native.Nat.{ℕ, _<_, _≤_, _-_}
-use mathlib.Core.Bool.{Bool, true, false, _&&_, _||_}
+use mathlib.Core.Bool.{true}
 use denote.Ref.{now}
 use borrow.Author.Count.{below-more}
 use Rattle.functions.specs.Does.{scan-broken, scan-ended}

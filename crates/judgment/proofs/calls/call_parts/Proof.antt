@@ -1,5 +1,5 @@
 -- `judgment::calls::call_parts` meets its contract: by the callees' contracts.
-use mathlib.Core.Path.{_≡_, refl, sym, ap, ap₂, _∙_}
+use mathlib.Core.Path.{ap₂}
 use mathlib.Core.Bool.{_&&_}
 use Rattle.judgment.specs.Calls.{callParts}
 use borrow.Author.Needs.{needs}

@@ -1,16 +1,15 @@
 -- `judgment::calls::call_region` meets its contract: by the callees' contracts.
-use mathlib.Core.Path.{_≡_, refl, sym, ap, ap₂, _∙_}
+use mathlib.Core.Path.{ap, ap₂, _∙_}
 use Prim.Native.Nat.{ℕ}
 use denote.Ref.{now}
-use mathlib.Core.Bool.{Bool, true, false, _&&_, _||_}
+use mathlib.Core.Bool.{_&&_}
 use Rattle.words.specs.Decide.{does}
-use lib.Dec.{ltb, leb, eqb}
-use Rattle.rules.specs.Types.{variable, Tree, form, numberOf, regionOf, inner, int, sub, decTree}
+use lib.Dec.{ltb}
+use Rattle.rules.specs.Types.{variable, Tree, sub, decTree}
 use Rattle.functions.specs.Functions.{functionAt}
 use Rattle.judgment.specs.Registers.{region-is}
 use Rattle.judgment.specs.Calls.{callRegion}
 use Rattle.rules.specs.Module.{regions}
-use Rattle.rules.specs.File.{byteOfD}
 use Rattle.terms.specs.HeadLaws.{digit-byte}
 use Rattle.terms.specs.Compare.{under}
 use borrow.Author.Needs.{needs}

@@ -1,14 +1,13 @@
 -- `judgment::calls::call_regions` meets its contract: those passed keep the rule.
-use mathlib.Core.Path.{_≡_, refl, sym, ap, ap₂, _∙_}
+use mathlib.Core.Path.{_≡_, sym, ap, _∙_}
 use Prim.Native.Nat.{ℕ, _<_, _≤_, _-_}
-use mathlib.Core.Bool.{Bool, true, false, _&&_, _||_}
+use mathlib.Core.Bool.{true}
 use denote.Ref.{now}
 use borrow.Author.Count.{below-more}
 use Rattle.functions.specs.Does.{scan-broken, scan-ended}
 use Rattle.rules.specs.declared.Record.{Record}
 use Rattle.functions.specs.Functions.{regionParams-at}
 use Rattle.judgment.specs.Calls.{callRegion, callRegions}
-use Rattle.rules.specs.File.{parametersOf}
 use borrow.Author.Needs.{needs}
 use native.Mathlib.Omega.{arith}
 use Rattle.judgment.proofs.calls.call_regions.Statement.{statement}

@@ -1,14 +1,14 @@
 -- `judgment::calls::call_result` meets its contract: by the callees' contracts.
-use mathlib.Core.Path.{_≡_, refl, sym, ap, ap₂, _∙_}
+use mathlib.Core.Path.{sym, ap, ap₂, _∙_}
 use Prim.Native.Nat.{ℕ}
 use denote.Ref.{now}
 use Rattle.rules.specs.declared.Record.{Record}
-use mathlib.Core.Bool.{Bool, true, false, _&&_, _||_}
+use mathlib.Core.Bool.{_&&_}
 use Rattle.words.specs.Decide.{does}
-use Rattle.rules.specs.Types.{variable, Tree, form, numberOf, regionOf, inner, int, sub, decTree}
+use Rattle.rules.specs.Types.{variable, Tree, sub, decTree}
 use Rattle.rules.specs.Decode.{moduleOf}
-use Rattle.functions.specs.Functions.{functionAt, result-at}
-use Rattle.judgment.specs.Registers.{isRegister, register-is}
+use Rattle.functions.specs.Functions.{result-at}
+use Rattle.judgment.specs.Registers.{register-is}
 use Rattle.judgment.specs.Calls.{callResult}
 use Rattle.rules.specs.File.{returnOf}
 use Rattle.terms.specs.Compare.{under}

@@ -1,7 +1,7 @@
 -- `judgment::calls::given` meets its contract: the first j bytes are those of d.
-use mathlib.Core.Path.{_≡_, refl, sym, ap, ap₂, _∙_}
-use Prim.Native.Nat.{ℕ, _<_, _≤_, _-_}
-use Rattle.judgment.specs.Calls.{mostGiven, Given, given-none, given-more}
+use mathlib.Core.Path.{_≡_}
+use Prim.Native.Nat.{ℕ, _≤_, _-_}
+use Rattle.judgment.specs.Calls.{Given, given-none, given-more}
 use Rattle.terms.specs.HeadLaws.{digit-lt}
 use lib.ListN.{length-replicate}
 use borrow.Author.Needs.{needs}

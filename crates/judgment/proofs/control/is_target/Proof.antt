@@ -1,8 +1,8 @@
 -- `judgment::control::is_target` meets its contract: by the callees' contracts.
-use mathlib.Core.Path.{_≡_, refl, sym, ap, ap₂, _∙_}
+use mathlib.Core.Path.{sym, ap, _∙_}
 use denote.Ref.{now}
 use Rattle.rules.specs.declared.Record.{Record}
-use lib.Dec.{ltb, leb, eqb}
+use lib.Dec.{ltb}
 use Rattle.functions.specs.Functions.{length-at}
 use Rattle.rules.specs.File.{instructionsOf}
 use borrow.Author.Needs.{needs}

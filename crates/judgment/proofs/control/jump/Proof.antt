@@ -1,9 +1,6 @@
 -- `judgment::control::jump` meets its contract: by the callees' contracts.
-use mathlib.Core.Path.{_≡_, refl, sym, ap, ap₂, _∙_}
-use Prim.Native.Nat.{ℕ}
+use mathlib.Core.Path.{_∙_}
 use denote.Ref.{now}
-use mathlib.Core.Bool.{Bool, true, false, _&&_, _||_}
-use lib.Dec.{ltb, leb, eqb}
 use Rattle.rules.specs.Decode.{moduleOf}
 use Rattle.functions.specs.Functions.{functionAt}
 use Rattle.judgment.specs.Rules.{jump-test}

@@ -1,15 +1,14 @@
 -- `judgment::control::returned` meets its contract: by the callees' contracts.
-use mathlib.Core.Path.{_≡_, refl, sym, ap, ap₂, _∙_}
+use mathlib.Core.Path.{sym, ap, ap₂, _∙_}
 use Prim.Native.Nat.{ℕ}
 use denote.Ref.{now}
-use mathlib.Core.Bool.{Bool, true, false, _&&_, _||_}
-use lib.Dec.{ltb, leb, eqb}
+use mathlib.Core.Bool.{_&&_}
 use Rattle.rules.specs.Decode.{moduleOf}
 use Rattle.functions.specs.Functions.{functionAt}
 use Rattle.judgment.specs.Rules.{return-test}
 use Rattle.rules.specs.declared.Record.{Record}
 use Rattle.words.specs.Decide.{does}
-use Rattle.rules.specs.Types.{variable, Tree, form, numberOf, regionOf, inner, int, sub, decTree}
+use Rattle.rules.specs.Types.{variable, Tree, decTree}
 use Rattle.judgment.specs.Registers.{register-is}
 use Rattle.functions.specs.Functions.{result-at}
 use Rattle.rules.specs.File.{returnOf}

@@ -1,8 +1,8 @@
 -- `judgment::registers::is_integer` meets its contract: by the callees' contracts.
-use mathlib.Core.Path.{_≡_, refl, sym, ap, ap₂, _∙_}
+use mathlib.Core.Path.{ap₂}
 use Prim.Native.Nat.{ℕ}
-use mathlib.Core.Bool.{Bool, true, false, _&&_, _||_}
-use lib.Dec.{ltb, leb, eqb}
+use mathlib.Core.Bool.{Bool, _&&_}
+use lib.Dec.{eqb}
 use Rattle.judgment.specs.Registers.{isInteger}
 use borrow.Author.Needs.{needs}
 use Rattle.judgment.proofs.registers.is_integer.Statement.{statement}

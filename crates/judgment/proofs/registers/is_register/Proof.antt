@@ -1,7 +1,7 @@
 -- `judgment::registers::is_register` meets its contract: by the callees' contracts.
-use mathlib.Core.Path.{_≡_, refl, sym, ap, ap₂, _∙_}
+use mathlib.Core.Path.{sym, ap, _∙_}
 use denote.Ref.{now}
-use lib.Dec.{ltb, leb, eqb}
+use lib.Dec.{ltb}
 use Rattle.functions.specs.Functions.{registers-at}
 use Rattle.judgment.specs.Registers.{isRegister}
 use borrow.Author.Needs.{needs}

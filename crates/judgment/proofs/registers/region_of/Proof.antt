@@ -1,7 +1,7 @@
 -- `judgment::registers::region_of` meets its contract: by the callees' contracts.
-use mathlib.Core.Path.{_≡_, refl, sym, ap, ap₂, _∙_}
+use mathlib.Core.Path.{ap, _∙_}
 use denote.Ref.{now}
-use Rattle.rules.specs.Types.{variable, Tree, form, numberOf, regionOf, inner, int, sub, decTree}
+use Rattle.rules.specs.Types.{variable, Tree, regionOf}
 use Rattle.judgment.specs.Registers.{register-is}
 use borrow.Author.Needs.{needs}
 use Rattle.judgment.proofs.registers.region_of.Statement.{statement}

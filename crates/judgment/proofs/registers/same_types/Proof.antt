@@ -1,9 +1,9 @@
 -- `judgment::registers::same_types` meets its contract: by the callees' contracts.
-use mathlib.Core.Path.{_≡_, refl, sym, ap, ap₂, _∙_}
+use mathlib.Core.Path.{ap₂, _∙_}
 use denote.Ref.{now}
-use mathlib.Core.Bool.{Bool, true, false, _&&_, _||_}
+use mathlib.Core.Bool.{_&&_}
 use Rattle.words.specs.Decide.{does}
-use Rattle.rules.specs.Types.{variable, Tree, form, numberOf, regionOf, inner, int, sub, decTree}
+use Rattle.rules.specs.Types.{variable, Tree, decTree}
 use Rattle.judgment.specs.Registers.{sameTypes, register-is}
 use borrow.Author.Needs.{needs}
 use Rattle.judgment.proofs.registers.same_types.Statement.{statement}

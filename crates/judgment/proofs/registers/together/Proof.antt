@@ -1,8 +1,7 @@
 -- `judgment::registers::together` meets its contract: by the callees' contracts.
-use mathlib.Core.Path.{_≡_, refl, sym, ap, ap₂, _∙_}
-use Prim.Native.Nat.{ℕ}
-use mathlib.Core.Bool.{Bool, true, false, _&&_, _||_}
-use lib.Dec.{ltb, leb, eqb}
+use mathlib.Core.Path.{ap₂}
+use mathlib.Core.Bool.{_&&_}
+use lib.Dec.{eqb}
 use Rattle.judgment.specs.Registers.{together}
 use borrow.Author.Needs.{needs}
 use Rattle.judgment.proofs.registers.together.Statement.{statement}

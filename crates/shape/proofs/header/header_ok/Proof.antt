@@ -1,5 +1,4 @@
 -- `shape::header::header_ok` meets its contract: its three tests. Assumes nothing.
-use native.Mathlib.Omega.{arith}
 use mathlib.Core.Path.{refl}
 use Rattle.shape.specs.Header.{header-by}
 use borrow.Author.Needs.{needs}

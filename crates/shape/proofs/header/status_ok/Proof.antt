@@ -1,5 +1,4 @@
 -- `shape::header::status_ok` meets its contract: the test on what was read. Assumes nothing.
-use native.Mathlib.Omega.{arith}
 use Rattle.shape.specs.Header.{status-by}
 use borrow.Author.Needs.{needs}
 use Rattle.shape.proofs.header.status_ok.Statement.{statement}

@@ -1,7 +1,7 @@
 -- `shape::pages::all_pages` meets its contract: every page before p is right. Assumes nothing.
 use borrow.Author.Needs.{needs}
 use native.Mathlib.Omega.{arith}
-use Prim.Native.Nat.{ℕ, _+_, _-_, _<_, _≤_}
+use Prim.Native.Nat.{ℕ, _-_, _<_, _≤_}
 use Rattle.stack.specs.Tells.{scan-none, scan-more, scan-broken, scan-ended}
 use Rattle.shape.specs.Pages.{PageOk}
 use Rattle.shape.proofs.pages.all_pages.Statement.{statement}

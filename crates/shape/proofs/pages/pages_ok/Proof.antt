@@ -1,5 +1,4 @@
 -- `shape::pages::pages_ok` meets its contract: page 0, and every page. Assumes nothing.
-use native.Mathlib.Omega.{arith}
 use mathlib.Core.Path.{_∙_}
 use Rattle.shape.specs.Pages.{pages-by}
 use borrow.Author.Needs.{needs}

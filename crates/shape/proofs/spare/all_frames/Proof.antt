@@ -1,7 +1,7 @@
 -- `shape::spare::all_frames` meets its contract: every frame before k is right. Assumes nothing.
 use borrow.Author.Needs.{needs}
 use native.Mathlib.Omega.{arith}
-use Prim.Native.Nat.{ℕ, _+_, _-_, _<_, _≤_}
+use Prim.Native.Nat.{ℕ, _-_, _<_, _≤_}
 use Rattle.stack.specs.Tells.{scan-none, scan-more, scan-broken, scan-ended}
 use Rattle.shape.specs.Spare.{FrameSpare}
 use Rattle.shape.proofs.spare.all_frames.Statement.{statement}

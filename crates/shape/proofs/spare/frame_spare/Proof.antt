@@ -1,5 +1,4 @@
 -- `shape::spare::frame_spare` meets its contract: in use or not. Assumes nothing.
-use native.Mathlib.Omega.{arith}
 use Rattle.shape.specs.Spare.{frame-used, frame-unused}
 use borrow.Author.Needs.{needs}
 use Rattle.shape.proofs.spare.frame_spare.Statement.{statement}

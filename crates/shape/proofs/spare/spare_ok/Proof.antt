@@ -1,5 +1,4 @@
 -- `shape::spare::spare_ok` meets its contract: the two areas and every frame. Assumes nothing.
-use native.Mathlib.Omega.{arith}
 use mathlib.Core.Path.{_∙_}
 use Rattle.shape.specs.Spare.{spare-by}
 use borrow.Author.Needs.{needs}

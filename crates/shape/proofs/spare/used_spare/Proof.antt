@@ -1,6 +1,5 @@
 -- `shape::spare::used_spare` meets its contract: its three parts. Assumes nothing.
-use native.Mathlib.Omega.{arith}
-use mathlib.Core.Path.{ap₂, _∙_}
+use mathlib.Core.Path.{ap₂}
 use Prim.Native.Nat.{_+_}
 use Rattle.shape.specs.Spare.{used-by}
 use borrow.Author.Needs.{needs}

@@ -1,9 +1,8 @@
 -- `shape::spare::zero_in` meets its contract: the answer is that of the bytes before i. Assumes nothing.
 use mathlib.Core.Path.{_≡_, refl}
 use mathlib.Core.Logic.{_⊎_, inl, inr}
-use borrow.Author.Needs.{needs}
 use native.Mathlib.Omega.{arith}
-use Prim.Native.Nat.{ℕ, _+_, _-_, _<_, _≤_}
+use Prim.Native.Nat.{_-_, _≤_}
 use Rattle.stack.specs.Tells.{Tells}
 use Rattle.shape.specs.Zeros.{Zero, zero-none, zero-more, zero-ended}
 use Rattle.shape.proofs.spare.zero_in.Statement.{statement}

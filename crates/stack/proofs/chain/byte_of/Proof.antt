@@ -1,6 +1,4 @@
 -- `stack::chain::byte_of` meets its contract: by the byte. Assumes nothing.
-use borrow.Author.Needs.{needs}
-use native.Mathlib.Omega.{arith}
 use Rattle.stack.specs.Chain.{byte-0, byte-1, byte-2, byte-3}
 use Rattle.stack.proofs.chain.byte_of.Statement.{statement}
 use Rattle.stack.proofs.chain.byte_of.Tie as tie

@@ -1,5 +1,4 @@
 -- `stack::chain::leads` meets its contract: the two entries. Assumes nothing.
-use native.Mathlib.Omega.{arith}
 use Rattle.stack.specs.Chain.{leads-by}
 use borrow.Author.Needs.{needs}
 use Rattle.stack.proofs.chain.leads.Statement.{statement}

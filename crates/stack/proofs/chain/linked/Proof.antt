@@ -1,5 +1,4 @@
 -- `stack::chain::linked` meets its contract: the call, its callee and its regions. Assumes nothing.
-use native.Mathlib.Omega.{arith}
 use Rattle.stack.specs.Chain.{linked-by}
 use Rattle.stack.specs.Tells.{tells-eq, tells-and}
 use borrow.Author.Needs.{needs}

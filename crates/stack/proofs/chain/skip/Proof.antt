@@ -1,7 +1,7 @@
 -- `stack::chain::skip` meets its contract: i instructions are passed. Assumes nothing.
 use borrow.Author.Needs.{needs}
 use native.Mathlib.Omega.{arith}
-use Prim.Native.Nat.{ℕ, _+_, _-_, _<_, _≤_}
+use Prim.Native.Nat.{_-_, _≤_}
 use mathlib.Core.Path.{_≡_}
 use Rattle.typing.specs.Walk.{skip}
 use Rattle.stack.specs.Chain.{skip-none, skip-more, skip-few, skip-all}

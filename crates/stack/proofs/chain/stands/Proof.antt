@@ -1,5 +1,4 @@
 -- `stack::chain::stands` meets its contract: function and instruction in range. Assumes nothing.
-use native.Mathlib.Omega.{arith}
 use mathlib.Core.Path.{ap, _∙_}
 use Rattle.rules.specs.File.{instructionsOf}
 use Rattle.stack.specs.Chain.{stands-by}

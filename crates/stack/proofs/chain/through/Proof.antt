@@ -1,7 +1,7 @@
 -- `stack::chain::through` meets its contract: every entry before i leads as it should. Assumes nothing.
 use borrow.Author.Needs.{needs}
 use native.Mathlib.Omega.{arith}
-use Prim.Native.Nat.{ℕ, _+_, _-_, _<_, _≤_}
+use Prim.Native.Nat.{ℕ, _-_, _<_, _≤_}
 use Rattle.stack.specs.Tells.{scan-none, scan-more, scan-broken, scan-ended}
 use Rattle.stack.specs.Chain.{Leads}
 use Rattle.stack.proofs.chain.through.Statement.{statement}

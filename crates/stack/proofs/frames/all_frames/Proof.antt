@@ -1,7 +1,7 @@
 -- `stack::frames::all_frames` meets its contract: every frame before k is right. Assumes nothing.
 use borrow.Author.Needs.{needs}
 use native.Mathlib.Omega.{arith}
-use Prim.Native.Nat.{ℕ, _+_, _-_, _<_, _≤_}
+use Prim.Native.Nat.{ℕ, _-_, _<_, _≤_}
 use Rattle.stack.specs.Tells.{scan-none, scan-more, scan-broken, scan-ended}
 use Rattle.stack.specs.Frames.{FrameOk}
 use Rattle.stack.proofs.frames.all_frames.Statement.{statement}

@@ -1,5 +1,4 @@
 -- `stack::frames::frame_ok` meets its contract: its three tests. Assumes nothing.
-use native.Mathlib.Omega.{arith}
 use Rattle.stack.specs.Tells.{tells-no, tells-and, told-yes, told-no}
 use Rattle.stack.specs.Frames.{frame-by}
 use borrow.Author.Needs.{needs}

@@ -1,5 +1,4 @@
 -- `stack::frames::frames_ok` meets its contract: number, lowest function, and each frame. Assumes nothing.
-use native.Mathlib.Omega.{arith}
 use mathlib.Core.Path.{_∙_}
 use Rattle.stack.specs.Tells.{tells-le, tells-eq, tells-and, tells-or}
 use Rattle.stack.specs.Frames.{frames-by}

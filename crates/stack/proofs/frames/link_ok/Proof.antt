@@ -1,5 +1,4 @@
 -- `stack::frames::link_ok` meets its contract: the highest frame stands where it likes. Assumes nothing.
-use native.Mathlib.Omega.{arith}
 use Rattle.stack.specs.Tells.{tells-yes}
 use Rattle.stack.specs.Frames.{link-by, link-last}
 use borrow.Author.Needs.{needs}

@@ -1,5 +1,4 @@
 -- `stack::regions::elsewhere` meets its contract: the entry that was read. Assumes nothing.
-use native.Mathlib.Omega.{arith}
 use Rattle.stack.specs.Facts.{elsewhere-by}
 use borrow.Author.Needs.{needs}
 use Rattle.stack.proofs.regions.elsewhere.Statement.{statement}

@@ -1,5 +1,4 @@
 -- `stack::regions::head` meets its contract: the head of the function that was read. Assumes nothing.
-use native.Mathlib.Omega.{arith}
 use borrow.Author.Needs.{needs}
 use Rattle.stack.proofs.regions.head.Statement.{statement}
 use Rattle.stack.proofs.regions.head.Tie as tie

@@ -1,5 +1,4 @@
 -- `stack::regions::local_ok` meets its contract: its three tests. Assumes nothing.
-use native.Mathlib.Omega.{arith}
 use Rattle.stack.specs.Facts.{local-ok-by}
 use borrow.Author.Needs.{needs}
 use Rattle.stack.proofs.regions.local_ok.Statement.{statement}

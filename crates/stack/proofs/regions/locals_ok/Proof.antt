@@ -1,7 +1,7 @@
 -- `stack::regions::locals_ok` meets its contract: every local region before i is right. Assumes nothing.
 use borrow.Author.Needs.{needs}
 use native.Mathlib.Omega.{arith}
-use Prim.Native.Nat.{ℕ, _+_, _-_, _<_, _≤_}
+use Prim.Native.Nat.{ℕ, _-_, _<_, _≤_}
 use Rattle.stack.specs.Tells.{scan-none, scan-more, scan-broken, scan-ended}
 use Rattle.stack.specs.Facts.{LocalOk, locals-by}
 use Rattle.stack.proofs.regions.locals_ok.Statement.{statement}

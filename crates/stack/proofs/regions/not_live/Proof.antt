@@ -1,7 +1,7 @@
 -- `stack::regions::not_live` meets its contract: no frame before k has it. Assumes nothing.
 use borrow.Author.Needs.{needs}
 use native.Mathlib.Omega.{arith}
-use Prim.Native.Nat.{ℕ, _+_, _-_, _<_, _≤_}
+use Prim.Native.Nat.{ℕ, _-_, _<_, _≤_}
 use Rattle.stack.specs.Tells.{scan-none, scan-more, scan-broken, scan-ended}
 use Rattle.stack.specs.Facts.{NotLocal, live-by}
 use Rattle.stack.proofs.regions.not_live.Statement.{statement}

@@ -1,5 +1,4 @@
 -- `stack::regions::not_local` meets its contract: its local entries. Assumes nothing.
-use native.Mathlib.Omega.{arith}
 use Rattle.stack.specs.Facts.{local-by}
 use borrow.Author.Needs.{needs}
 use Rattle.stack.proofs.regions.not_local.Statement.{statement}

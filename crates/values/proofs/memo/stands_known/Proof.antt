@@ -1,6 +1,5 @@
 -- `values::memo::stands_known` meets its contract: page, owner, place in the page, then the run. Assumes nothing.
 use denote.Ref.{now}
-use mathlib.Core.Path.{_≡_}
 use Prim.Native.Nat.{_%_}
 use native.Mathlib.Nat.{div-add-mod'}
 use native.Mathlib.Omega.{arith}

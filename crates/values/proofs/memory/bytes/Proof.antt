@@ -1,6 +1,5 @@
 -- `values::memory::bytes` meets its contract: its four bytes. Assumes nothing.
-use native.Mathlib.Omega.{arith}
-use mathlib.Core.Path.{_≡_, refl, sym, ap, _∙_}
+use mathlib.Core.Path.{_∙_}
 use Rattle.values.specs.Memory.{word-is}
 use borrow.Author.Needs.{needs}
 use Rattle.values.proofs.memory.bytes.Statement.{statement}

@@ -1,6 +1,5 @@
 -- `values::memory::word` meets its contract: the bytes at its place. Assumes nothing.
 use mathlib.Core.Path.{sym, ap, _∙_}
-use native.Mathlib.Omega.{arith}
 use Rattle.words.specs.Bytes.{number}
 use Rattle.state.specs.Reads.{memoryNumber-is}
 use borrow.Author.Needs.{needs}

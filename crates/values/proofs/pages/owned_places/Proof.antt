@@ -1,5 +1,4 @@
 -- `values::pages::owned_places` meets its contract: by the page's owner. Assumes nothing.
-use mathlib.Core.Path.{_∙_}
 use Rattle.values.specs.Pages.{places-other, places-owned}
 use borrow.Author.Needs.{needs}
 use Rattle.values.proofs.pages.owned_places.Statement.{statement}
