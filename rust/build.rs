@@ -29,7 +29,9 @@ fn main() {
         let library = Path::new(&folder).join("libplain.a").display().to_string();
         println!("cargo:rerun-if-changed=../bench/plain.c");
         println!("cargo:rerun-if-changed=../bench/plain.h");
-        let flags = ["-std=c11", "-O3", "-Wall", "-Wextra", "-Werror", "-c"];
+        // As bench/run does with the library: where the linker puts a function is not to count.
+        let flags =
+            ["-std=c11", "-O3", "-falign-functions=64", "-Wall", "-Wextra", "-Werror", "-c"];
         run("gcc", &[&flags[..], &["../bench/plain.c", "-o", &object]].concat());
         run("ar", &["rcs", &library, &object]);
         println!("cargo:rustc-link-search=native={folder}");
