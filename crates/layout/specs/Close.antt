@@ -1,15 +1,15 @@
 -- The laws of substitution for a type closed by a region map, as soundness uses them: what a frame's map keeps. Assumes nothing.
 use mathlib.Core.Path.{_≡_, refl, subst}
 use Prim.Native.Nat.{ℕ}
-use Rattle.rules.specs.Types.{variable, live, Variable, LiveRegion, region, Tree, int, ptr, arr, width, sub, Uses, Primitive}
+use Rattle.rules.specs.Types.{variable, live, Variable, LiveRegion, region, Tree, arr, width, sub, Uses, Primitive}
 use Rattle.rules.specs.Module.{Module}
-use Rattle.rules.specs.Flat.{Has, Layout, subLayout, flat, size, count, distance, Run, RunAt, Same}
+use Rattle.rules.specs.Flat.{Has, Layout, subLayout, flat, size, distance, Run, Same}
 use Rattle.rules.specs.Heap.{close}
 use Rattle.layout.specs.TypesOk.{GoodTree, TypesOk}
-use Rattle.layout.specs.Types.{sub-width, sub-prim, prim-sub}
+use Rattle.layout.specs.Types.{sub-width, sub-prim}
 use Rattle.layout.specs.Prims.{has-placed-inv}
-use Rattle.layout.specs.Flat.{size-sub, good-sub, flat-sub, count-flat-sub, has-uses}
-use Rattle.layout.specs.Runs.{flat-distance-sub, run-sub, runAt-sub, same-sub}
+use Rattle.layout.specs.Flat.{size-sub, good-sub, flat-sub, has-uses}
+use Rattle.layout.specs.Runs.{flat-distance-sub, run-sub, same-sub}
 
 -- a region map as a substitution
 abbrev pub mapped : (ℕ → ℕ) → Variable → LiveRegion
@@ -17,14 +17,6 @@ mapped μ r = region (μ (r .number))
 
 module _ (μ : ℕ → ℕ) where
   -- by form
-  pub close-int : (w : ℕ) → close μ (int w) ≡ int w
-  unfolding sub
-  close-int w = refl
-
-  pub close-ptr : (T : Tree variable) (r : Variable) → close μ (ptr T r) ≡ ptr (close μ T) (mapped μ r)
-  unfolding sub
-  close-ptr T r = refl
-
   pub close-arr : (n : ℕ) (T : Tree variable) → close μ (arr n T) ≡ arr n (close μ T)
   unfolding sub
   close-arr n T = refl
@@ -35,9 +27,6 @@ module _ (μ : ℕ → ℕ) where
   pub close-prim : (T : Tree variable) → Primitive T → Primitive (close μ T)
   close-prim T p = sub-prim (mapped μ) T p
 
-  pub prim-close : (T : Tree variable) → Primitive (close μ T) → Primitive T
-  prim-close T p = prim-sub (mapped μ) T p
-
   pub size-close : (m : Module) (T : Tree variable) → size m (close μ T) ≡ size m T
   size-close m T = size-sub (mapped μ) m T
 
@@ -47,9 +36,6 @@ module _ (μ : ℕ → ℕ) where
   module _ (m : Module) (ok : TypesOk m) (T : Tree variable) (g : GoodTree m T) where
     pub flat-close : flat m (close μ T) ≡ subLayout (mapped μ) (flat m T)
     flat-close = flat-sub m ok (mapped μ) T g
-
-    pub count-close : count (flat m (close μ T)) ≡ count (flat m T)
-    count-close = count-flat-sub m ok (mapped μ) T g
 
     pub distance-close : (q : ℕ) → distance (flat m (close μ T)) q ≡ distance (flat m T) q
     distance-close q = flat-distance-sub (mapped μ) m ok T g q
@@ -64,9 +50,6 @@ module _ (μ : ℕ → ℕ) where
     module _ (U : Tree variable) (h : GoodTree m U) where
       pub run-close : (q : ℕ) → Run (flat m T) q (flat m U) → Run (flat m (close μ T)) q (flat m (close μ U))
       run-close q r = run-sub (mapped μ) m ok T U g h q r
-
-      pub runAt-close : (o : ℕ) → RunAt (flat m T) o (flat m U) → RunAt (flat m (close μ T)) o (flat m (close μ U))
-      runAt-close o r = runAt-sub (mapped μ) m ok T U g h o r
 
       pub same-close : Same (flat m T) (flat m U) → Same (flat m (close μ T)) (flat m (close μ U))
       same-close s = same-sub (mapped μ) m ok T U g h s

@@ -14,11 +14,11 @@ use Rattle.rules.specs.Limits.{sizeLimit}
 use Rattle.words.specs.Decide.{Each, none, more}
 use Rattle.rules.specs.Types.{RegionKind, variable, Region, Variable, Tree, int, ptr, arr, struct, width, sub, arg, Uses, in-arr, in-struct, Primitive, integer, pointer}
 use Rattle.rules.specs.Module.{Module}
-use Rattle.rules.specs.Flat.{Placed, at, off, type, Has, here, there, Layout, single, none as noLayout, moved, packed, beside, copiesOf, copies, placedIn, subLayout, flatWith, empty, fieldsFrom, fieldsWith, layouts, flat, structFlat, size, count, distance}
+use Rattle.rules.specs.Flat.{Placed, at, off, type, Has, here, there, Layout, single, none as noLayout, moved, packed, beside, copiesOf, copies, placedIn, subLayout, flatWith, empty, fieldsFrom, fieldsWith, layouts, flat, size, count, distance}
 use Rattle.layout.specs.TypesOk.{Width, one, two, four, GoodTree, good-int, good-ptr, good-arr, good-struct, TypesOk}
 use Rattle.layout.specs.Lists.{each-append, each-all, each-map, each-weaken, map-map, map-each, snoc-cases}
 use Rattle.layout.specs.Types.{sub-sub, sub-agree, sub-width, sub-prim, arg-map, arg-uses, uses-sub}
-use Rattle.layout.specs.Prims.{has-append-left, has-append-right, has-moved, has-placed, has-some, has-each, size-copiesOf, count-copiesOf, copies-sized, size-copies, copies-fit, subLayout-size, subLayout-copies, count-sub, length-layouts, Ints, ints-all, Made, made-flat}
+use Rattle.layout.specs.Prims.{has-append-left, has-append-right, has-moved, has-placed, has-some, has-each, size-copiesOf, size-copies, copies-fit, subLayout-copies, count-sub, length-layouts, Ints, ints-all, Made, made-flat}
 
 -- ---- by form
 
@@ -26,10 +26,6 @@ module _ {k : RegionKind} (m : Module) where
   pub flat-arr : (n : ℕ) (T : Tree k) → flat m (arr n T) ≡ copies n (flat m T)
   unfolding flat flatWith
   flat-arr n T = refl
-
-  pub flat-struct : (N : ℕ) (rs : List (Region k)) → flat m (struct N rs) ≡ subLayout (arg rs) (structFlat m N)
-  unfolding flat flatWith structFlat
-  flat-struct N rs = refl
 
   pub flat-prim : (T : Tree k) → Primitive T → flat m T ≡ single (width T) T
   unfolding flat flatWith
@@ -52,10 +48,6 @@ struct-known m zero N h = absurd (not-suc-le-zero h)
 struct-known m (suc n) N h =
     snoc-cases (λ i L. i < suc n → L ≡ fieldsWith (layouts m i) (m .fields i)) (layouts m n) (fieldsWith (layouts m n) (m .fields n)) noLayout
     (λ i l _. struct-known m n i (omega (arith, length-layouts m n))) (λ _. rw (length-layouts m n) refl) (λ i l g. absurd (omega (arith, length-layouts m n))) N h
-
-pub structFlat-fields : (m : Module) (N : ℕ) → N < m .structs → structFlat m N ≡ fieldsWith (layouts m N) (m .fields N)
-unfolding structFlat
-structFlat-fields m N h = struct-known m (m .structs) N h
 
 -- ---- order: each primitive starts where the one before it has ended, or later, and the last ends inside
 
@@ -260,10 +252,6 @@ pub data Basic {k : RegionKind} : Tree k → Type 0 where
   basic-int : {w : ℕ} → Width w → Basic (int w)
   basic-ptr : {T : Tree k} {r : Region k} → Basic (ptr T r)
 
-pub basic-prim : {k : RegionKind} {T : Tree k} → Basic T → Primitive T
-basic-prim (basic-int w) = integer
-basic-prim basic-ptr = pointer
-
 pub basic-width : {k : RegionKind} {T : Tree k} → Basic T → Width (width T)
 basic-width (basic-int w) = w
 basic-width basic-ptr = four
@@ -330,17 +318,6 @@ good-sized m (struct N rs) (good-struct s e) = s
 -- an element of what has a size has one
 pub element-sized : {k : RegionKind} (m : Module) (n : ℕ) (T : Tree k) → size m (arr n T) ≤ sizeLimit → n * size m T ≤ sizeLimit
 element-sized {k} m n T h = copies-fit n (flat m T) (subst (λ (L : Layout k). L .size ≤ sizeLimit) (flat-arr m n T) h)
-
-pub size-arr : {k : RegionKind} (m : Module) (n : ℕ) (T : Tree k) → size m (arr n T) ≤ sizeLimit → size m (arr n T) ≡ n * size m T
-size-arr {k} m n T h =
-    ap (λ (L : Layout k). L .size) (flat-arr m n T ∙ copies-sized n (flat m T) (element-sized m n T h)) ∙ size-copiesOf n (flat m T)
-
-pub count-arr : {k : RegionKind} (m : Module) (n : ℕ) (T : Tree k) → size m (arr n T) ≤ sizeLimit → count (flat m (arr n T)) ≡ n * count (flat m T)
-count-arr {k} m n T h =
-    ap (λ (L : Layout k). count L) (flat-arr m n T ∙ copies-sized n (flat m T) (element-sized m n T h)) ∙ count-copiesOf n (flat m T)
-
-pub size-struct : {k : RegionKind} (m : Module) (N : ℕ) (rs : List (Region k)) → size m (struct N rs) ≡ structFlat m N .size
-size-struct {k} m N rs = ap (λ (L : Layout k). L .size) (flat-struct m N rs) ∙ subLayout-size (arg rs) (structFlat m N)
 
 module _ {j k : RegionKind} (σ : Region j → Region k) where
   with-size-sub : (ls : List (Layout variable)) (T : Tree j) → flatWith ls (sub σ T) .size ≡ flatWith ls T .size
@@ -485,6 +462,3 @@ module _ (m : Module) where
     pub flat-sub : {j k : RegionKind} (σ : Region j → Region k) (T : Tree j) → GoodTree m T → flat m (sub σ T) ≡ subLayout σ (flat m T)
     unfolding flat
     flat-sub σ T g = with-sub (layouts m (m .structs)) (uses-layouts (m .structs) (omega arith)) σ T g
-
-    pub count-flat-sub : {j k : RegionKind} (σ : Region j → Region k) (T : Tree j) → GoodTree m T → count (flat m (sub σ T)) ≡ count (flat m T)
-    count-flat-sub {j} {k} σ T g = ap (λ (L : Layout k). count L) (flat-sub σ T g) ∙ count-sub σ (flat m T)

@@ -7,17 +7,17 @@ use Prim.Native.Nat.{ℕ, zero, suc, _+_, _-_, _*_, _^_, _/_, _%_, _<_, _≤_}
 use native.Mathlib.Nat.{mod-lt, div-add-mod, mul-le-mul-left, suc-inj}
 use native.Mathlib.Decide.{decLt}
 use native.Mathlib.Omega.{arith}
-use Rattle.rules.specs.Limits.{pages, pageBytes, memoryBytes}
-use Rattle.rules.specs.Types.{variable, live, Variable, region, Tree, int, ptr, arr, struct, width, sub, Primitive, integer, pointer}
+use Rattle.rules.specs.Limits.{pages, pageBytes}
+use Rattle.rules.specs.Types.{live, region, Tree, int, ptr, arr, struct, width, sub, Primitive}
 use Rattle.rules.specs.Module.{Module}
-use Rattle.rules.specs.Flat.{at, off, Has, flat, size, count, distance, Run, RunAt, Same}
+use Rattle.rules.specs.Flat.{at, Has, flat, size, count, distance, Run, RunAt, Same}
 use Rattle.rules.specs.Heap.{close, HeapTyping, Stands, Value}
 use Rattle.rules.specs.Claim.{InObject, InRun}
 use Rattle.layout.specs.TypesOk.{GoodTree, good-element, TypesOk}
 use Rattle.layout.specs.Types.{Outer}
-use Rattle.layout.specs.Prims.{has-at, at-has}
-use Rattle.layout.specs.Flat.{flat-inside, flat-apart, flat-has-prim, Apart, SamePlace, filled-some, distance-zero, has-basic, basic-wide, good-sized, flat-some}
-use Rattle.layout.specs.Runs.{flat-rising, flat-ascending, run-has, run-has-from, run-run, run-prim, run-size, prim-run-from, same-run, same-sym, has-element, distance-element}
+use Rattle.layout.specs.Prims.{at-has}
+use Rattle.layout.specs.Flat.{flat-inside, flat-apart, Apart, SamePlace, filled-some, distance-zero, has-basic, basic-wide, good-sized, flat-some}
+use Rattle.layout.specs.Runs.{flat-rising, flat-ascending, run-has, run-has-from, run-run, run-prim, run-size, same-run, same-sym, has-element, distance-element}
 
 -- ---- the place of an address
 
@@ -109,28 +109,6 @@ value-bound m W (ptr T r) v (inr h) = omega (arith, h .inside)
 value-bound m W (arr n T) v h = absurd h
 value-bound m W (struct N rs) v h = absurd h
 
--- only primitives have values
-pub value-prim : (m : Module) (W : HeapTyping) (T : Tree live) (v : ℕ) → Value m W T v → Primitive T
-value-prim m W (int w) v h = integer
-value-prim m W (ptr T r) v h = pointer
-value-prim m W (arr n T) v h = absurd h
-value-prim m W (struct N rs) v h = absurd h
-
--- a value of a pointer type closed by a region map: zero, or the closed target stands there
-pub value-pointer : (m : Module) (W : HeapTyping) (μ : ℕ → ℕ) (T : Tree variable) (r : Variable) (v : ℕ)
-    → Value m W (close μ (ptr T r)) v → (v ≡ 0) ⊎ Stands m W (close μ T) (μ (r .number)) v
-unfolding sub
-value-pointer m W μ T r v h = h
-
-pub pointer-value : (m : Module) (W : HeapTyping) (μ : ℕ → ℕ) (T : Tree variable) (r : Variable) (v : ℕ)
-    → (v ≡ 0) ⊎ Stands m W (close μ T) (μ (r .number)) v → Value m W (close μ (ptr T r)) v
-unfolding sub
-pointer-value m W μ T r v h = h
-
-pub value-integer : (m : Module) (W : HeapTyping) (μ : ℕ → ℕ) (w v : ℕ) → Value m W (close μ (int w)) v → v < 256 ^ w
-unfolding sub
-value-integer m W μ w v h = h
-
 pub integer-value : (m : Module) (W : HeapTyping) (μ : ℕ → ℕ) (w v : ℕ) → v < 256 ^ w → Value m W (close μ (int w)) v
 unfolding sub
 integer-value m W μ w v h = h
@@ -164,13 +142,6 @@ module _ (m : Module) (ok : TypesOk m) (W : HeapTyping) where
       let some = flat-some m ok T (good-element g) in
       subst (λ (x : ℕ). Stands m W T r (a + x)) (distance-element m n T i l sized some)
       (stands-position (arr n T) T r a (i * count (flat m T)) g (has-element m n T i l sized some) h)
-
-  -- each primitive of a run stands at its distance
-  pub stands-has : (T : Tree live) (r a : ℕ) → GoodTree m T → Stands m W T r a → {d : ℕ} {P : Tree live} → Has (flat m T .prims) d P → Stands m W P r (a + d)
-  stands-has T r a g h {d} {P} k =
-      let c = has-at k in
-      subst (λ (x : ℕ). Stands m W P r (a + x)) (ap off (c .is))
-      (stands-position T P r a (c .position) g (prim-run-from m (flat m T) d P (flat-has-prim m T k) c) h)
 
 -- what has the region's primitives stands at every place of the region's pages
 pub stands-new : (m : Module) (W : HeapTyping) (T : Tree live) (r p j : ℕ) → p < pages → W .owner p ≡ suc r → 0 < size m (W .type r)
@@ -234,26 +205,6 @@ slots-apart m W x y S T f g = go (decLt (f .page) (g .page)) (decLt (g .page) (f
         (g .address ∙ ap₂ (λ (q s : ℕ). pageBytes * q + (size m (W .type s) * g .place + g .distance)) (sym p) r)
 
 module _ (m : Module) (W : HeapTyping) where
-  -- each primitive of a run at an address is one of the object there
-  pub stands-part : (T : Tree live) (r a : ℕ) → Stands m W T r a → {d : ℕ} {P : Tree live} → Has (flat m T .prims) d P → Slot m W (a + d) P
-  stands-part T r a h {d} {P} k =
-      let s = stands-spot m W T r a h in
-      record {
-        region = r;
-        page = a / pageBytes;
-        place = a % pageBytes / size m (W .type r);
-        distance = a % pageBytes % size m (W .type r) + d;
-        inside = s .inside;
-        own = s .own;
-        fits = s .fits;
-        has = run-has (flat m (W .type r)) (a % pageBytes % size m (W .type r)) (flat m T) (h .run) k;
-        address = omega (arith, s .address);
-      }
-
-  pub stands-part-region : (T : Tree live) (r a : ℕ) (h : Stands m W T r a) {d : ℕ} {P : Tree live} (k : Has (flat m T .prims) d P) → stands-part T r a h k .region ≡ r
-  unfolding stands-part
-  stands-part-region T r a h k = refl
-
   -- the address of a pointer to a primitive is the slot of that primitive (25, 26)
   pub stands-slot : (P : Tree live) (r a : ℕ) → Primitive P → Stands m W P r a → Slot m W a P
   stands-slot P r a p h =
@@ -270,19 +221,9 @@ module _ (m : Module) (W : HeapTyping) where
         address = s .address;
       }
 
-  pub stands-slot-region : (P : Tree live) (r a : ℕ) (p : Primitive P) (h : Stands m W P r a) → stands-slot P r a p h .region ≡ r
-  unfolding stands-slot
-  stands-slot-region P r a p h = refl
-
   -- a slot lies in its object and in its page
   pub slot-inside : (x : ℕ) (T : Tree live) (s : Slot m W x T) → s .distance + width T ≤ size m (W .type (s .region))
   slot-inside x T s = flat-inside m (W .type (s .region)) (s .has)
-
-  pub slot-page : (x : ℕ) (T : Tree live) (s : Slot m W x T) → 0 < width T → (x / pageBytes ≡ s .page) × (x % pageBytes + width T ≤ pageBytes)
-  slot-page x T s h = (omega (arith, slot-inside x T s, s .fits, s .address), omega (arith, slot-inside x T s, s .fits, s .address))
-
-  pub slot-prim : (x : ℕ) (T : Tree live) → Slot m W x T → Primitive T
-  slot-prim x T s = flat-has-prim m (W .type (s .region)) (s .has)
 
 -- ---- the bytes of a run
 
@@ -295,13 +236,6 @@ module _ (m : Module) (W : HeapTyping) (T : Tree live) (r a : ℕ) (h : Stands m
   stands-in-object i low high =
       let s = stands-spot m W T r a h in
       record { low = omega (arith, s .address); high = omega (arith, s .address, stands-inside); whole = s .fits }
-
-  -- and in its page, in memory
-  pub stands-page : a % pageBytes + size m T ≤ pageBytes
-  stands-page = omega (arith, stands-spot m W T r a h .fits, div-add-mod (a % pageBytes) (size m (W .type r)), stands-inside)
-
-  pub stands-memory : a + size m T ≤ memoryBytes
-  stands-memory = omega (arith, stands-page, h .inside)
 
   -- each of its bytes lies in a primitive of the run
   pub stands-bytes : (i : ℕ) → a ≤ i → i < a + size m T → InRun m T a i

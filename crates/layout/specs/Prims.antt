@@ -27,17 +27,11 @@ moved-zero {k} (at d T) = ap {B = Placed k} (λ x. at x T) (zero-add d)
 pub moved-off : {k : RegionKind} (n : ℕ) (p : Placed k) → off (moved n p) ≡ n + off p
 moved-off n (at d T) = refl
 
-pub moved-type : {k : RegionKind} (n : ℕ) (p : Placed k) → type (moved n p) ≡ type p
-moved-type n (at d T) = refl
-
 pub placed-moved : {j k : RegionKind} (σ : Region j → Region k) (n : ℕ) (p : Placed j) → placedIn σ (moved n p) ≡ moved n (placedIn σ p)
 placed-moved σ n (at d T) = refl
 
 pub placed-off : {j k : RegionKind} (σ : Region j → Region k) (p : Placed j) → off (placedIn σ p) ≡ off p
 placed-off σ (at d T) = refl
-
-pub placed-type : {j k : RegionKind} (σ : Region j → Region k) (p : Placed j) → type (placedIn σ p) ≡ sub σ (type p)
-placed-type σ (at d T) = refl
 
 -- ---- members
 
@@ -81,16 +75,6 @@ has-some (there h) = omega arith
 pub has-each : {k : RegionKind} (P : Tree k → Type 0) {l : List (Placed k)} {d : ℕ} {T : Tree k} → Each (λ p. P (type p)) l → Has l d T → P T
 has-each P (more q u) here = q
 has-each P (more q u) (there h) = has-each P u h
-
--- a member's position
-pub record At {k : RegionKind} (l : List (Placed k)) (d : ℕ) (T : Tree k) : Type 0 where
-  pub position : ℕ
-  pub below : position < length l
-  pub is : getD l position (at 0 (int 0)) ≡ at d T
-
-pub has-at : {k : RegionKind} {l : List (Placed k)} {d : ℕ} {T : Tree k} → Has l d T → At l d T
-has-at here = record { position = 0; below = omega arith; is = refl }
-has-at (there h) = let a = has-at h in record { position = suc (a .position); below = omega arith; is = a .is }
 
 pub at-has : {k : RegionKind} (l : List (Placed k)) (i : ℕ) (z : Placed k) → i < length l → Has l (off (getD l i z)) (type (getD l i z))
 at-has [] i z h = absurd (not-suc-le-zero h)

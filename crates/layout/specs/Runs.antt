@@ -1,4 +1,4 @@
--- Laws of positions and runs: a position is determined by its distance; a run's primitives are the object's, o bytes further; runs
+-- Laws of positions and runs: the first position at a distance; a run's primitives are the object's, o bytes further; runs
 -- in runs, elements, equal primitives, runs under substitution, and that a run lies inside. What a law asks of the module stands
 -- in `TypesOk` and `GoodTree`.
 use mathlib.Core.Path.{_≡_, refl, sym, ap, ap₂, _∙_, subst}
@@ -18,10 +18,10 @@ use Rattle.words.specs.Choose.{lt-or-le, true-not-false}
 use Rattle.rules.specs.Limits.{sizeLimit}
 use Rattle.rules.specs.Types.{RegionKind, Region, Tree, int, arr, width, sub, Primitive}
 use Rattle.rules.specs.Module.{Module}
-use Rattle.rules.specs.Flat.{Placed, at, off, type, Has, here, Layout, single, moved, packed, copiesOf, placedIn, subLayout, flat, size, count, distance, Run, RunAt, positionAt, Same}
+use Rattle.rules.specs.Flat.{Placed, at, off, type, Has, here, Layout, moved, packed, copiesOf, placedIn, subLayout, flat, size, count, distance, Run, RunAt, positionAt, Same}
 use Rattle.layout.specs.TypesOk.{GoodTree, TypesOk}
 use Rattle.layout.specs.Lists.{each-at, getD-map}
-use Rattle.layout.specs.Prims.{moved-moved, moved-zero, moved-off, placed-off, placed-moved, has-moved, has-take, has-drop, At, has-at, at-has, nth, count-copiesOf, copies-sized, count-sub}
+use Rattle.layout.specs.Prims.{moved-moved, moved-zero, moved-off, placed-off, placed-moved, has-moved, has-take, has-drop, at-has, nth, count-copiesOf, copies-sized, count-sub}
 use Rattle.layout.specs.Flat.{Ordered, ordered-flat, has-inside, flat-inside, flat-basic, basic-wide, distance-zero, filled-some, flat-arr, flat-prim, element-sized, flat-sub}
 
 -- ---- positions
@@ -70,10 +70,6 @@ module _ {k : RegionKind} where
     position-is o q h before e =
         first-is (count L) (λ j. not (eqb (distance L j) o)) q (omega arith) (λ j l. ap not (ne-eqb (distance L j) o (before j l)))
         (λ l. ap not (eq-eqb (distance L q) o e))
-
-    -- a position is determined by its distance
-    pub position-of : Ascending L → (q : ℕ) → q < count L → positionAt L (distance L q) ≡ q
-    position-of up q h = position-is (distance L q) q h (λ j l e. let s = up j q l h in omega arith) refl
 
     pub position-zero : 0 < count L → distance L 0 ≡ 0 → positionAt L 0 ≡ 0
     position-zero h e = position-is 0 0 h (λ j l. absurd (not-suc-le-zero l)) e
@@ -148,9 +144,6 @@ module _ {k : RegionKind} where
     -- each primitive of M is, o bytes further, one of L
     pub run-has : {d : ℕ} {T : Tree k} → Has (M .prims) d T → Has (L .prims) (o + d) T
     run-has {d} {T} h = subst (λ (x : ℕ). Has (L .prims) (x + d) T) runAt-distance (run-has-from L (positionAt L o) M r h)
-
-  pub run-at : (L : Layout k) → Ascending L → (q : ℕ) (M : Layout k) → Run L q M → RunAt L (distance L q) M
-  run-at L up q M r = subst (λ (x : ℕ). Run L x M) (sym (position-of L up q (omega (arith, run-room L q M r, r .some)))) r
 
   -- where the distances of L do not fall and those of M grow, position q of M is q after the position of M
   pub position-in : (L : Layout k) → Rising L → (o : ℕ) (M : Layout k) → Ascending M → RunAt L o M → (q : ℕ) → q < count M
@@ -255,30 +248,7 @@ module _ {k : RegionKind} where
         equal = ap (take (count M)) (s .equal) ∙ take-length (M .prims) ∙ sym (map-moved-zero (M .prims)) ∙ ap (λ (x : ℕ). map (moved x) (M .prims)) (sym e);
       })
 
-  pub same-run-back : (L M : Layout k) → distance L 0 ≡ 0 → Same L M → RunAt M 0 L
-  same-run-back L M e s = same-run M L (ap (λ (l : List (Placed k)). off (getD l 0 (at 0 (int 0)))) (sym (s .equal)) ∙ e) (same-sym L M s)
-
   -- ---- one primitive
-
-  -- a primitive is a run where it stands
-  pub prim-run-from : (m : Module) (L : Layout k) (d : ℕ) (P : Tree k) → Primitive P → (a : At (L .prims) d P) → Run L (a .position) (flat m P)
-  prim-run-from m L d P p a =
-      let q : ℕ = a .position in
-      let at-d : distance L q ≡ d = ap off (a .is) in
-      subst (λ (M : Layout k). Run L q M) (sym (flat-prim m P p))
-      (matches-run L q (single (width P) P)
-      (record {
-        some = omega arith;
-        room = omega (arith, a .below);
-        each = λ i l.
-            let z : i ≡ 0 = omega arith in
-            rw z (ap (nth L) (add-zero q) ∙ a .is ∙ ap {B = Placed k} (λ x. at x P) (sym at-d ∙ sym (add-zero (distance L q))));
-      }))
-
-  pub prim-run : (m : Module) (L : Layout k) → Ascending L → (d : ℕ) (P : Tree k) → Primitive P → Has (L .prims) d P → RunAt L d (flat m P)
-  prim-run m L up d P p h =
-      let a = has-at h in
-      subst (λ (x : ℕ). RunAt L x (flat m P)) (ap off (a .is)) (run-at L up (a .position) (flat m P) (prim-run-from m L d P p a))
 
   -- a run of a primitive is that primitive
   pub run-prim : (m : Module) (L : Layout k) (o : ℕ) (P : Tree k) → Primitive P → RunAt L o (flat m P) → Has (L .prims) o P
@@ -337,9 +307,6 @@ module _ {j k : RegionKind} (σ : Region j → Region k) where
 
     pub same-sub : Same (flat m T) (flat m U) → Same (flat m (sub σ T)) (flat m (sub σ U))
     same-sub s = rw (flat-sub m ok σ T g, flat-sub m ok σ U h) (same-subLayout (flat m T) (flat m U) s)
-
-    pub runAt-sub : (o : ℕ) → RunAt (flat m T) o (flat m U) → RunAt (flat m (sub σ T)) o (flat m (sub σ U))
-    runAt-sub o r = rw (flat-sub m ok σ T g, flat-sub m ok σ U h) (rw (position-sub (flat m T) o) (run-subLayout (flat m T) (positionAt (flat m T) o) (flat m U) r))
 
   pub flat-distance-sub : (m : Module) → TypesOk m → (T : Tree j) → GoodTree m T → (q : ℕ) → distance (flat m (sub σ T)) q ≡ distance (flat m T) q
   flat-distance-sub m ok T g q = rw (flat-sub m ok σ T g) (distance-sub (flat m T) q)

@@ -1,26 +1,15 @@
--- Laws of type terms: substitution (identity, composition, agreement, closing), what it keeps (form, width, primitives, regions
+-- Laws of type terms: substitution (composition, agreement, closing), what it keeps (width, primitives, regions
 -- used), good trees under it. Assumes nothing.
 use mathlib.Core.Path.{_≡_, refl, ap, ap₂}
-use mathlib.Core.List.{List, [], _∷_, map}
+use mathlib.Core.List.{List, [], map}
 use Prim.Native.Nat.{ℕ, _<_}
 use lib.ListN.{length}
 use Rattle.words.specs.Decide.{Each}
-use Rattle.rules.specs.Types.{RegionKind, variable, Region, Variable, region, Tree, int, ptr, arr, struct, width, sub, arg, nowhere, form, Uses, in-int, in-ptr, in-arr, in-struct, Primitive, integer, pointer}
+use Rattle.rules.specs.Types.{RegionKind, variable, Region, Variable, region, Tree, int, ptr, arr, struct, width, sub, arg, nowhere, Uses, in-int, in-ptr, in-arr, in-struct, Primitive, integer, pointer}
 use Rattle.rules.specs.Heap.{close}
 use Rattle.layout.specs.Lists.{each-at, each-map, map-map, map-each, getD-map}
 
 -- ---- equal substitutions
-
-map-id : {k : RegionKind} (rs : List (Region k)) → map (λ r. r) rs ≡ rs
-map-id [] = refl
-map-id {k} (r ∷ rs) = ap (λ (l : List (Region k)). r ∷ l) (map-id rs)
-
-pub sub-id : {k : RegionKind} (T : Tree k) → sub (λ r. r) T ≡ T
-unfolding sub
-sub-id (int w) = refl
-sub-id {k} (ptr T r) = ap (λ (U : Tree k). ptr U r) (sub-id T)
-sub-id {k} (arr n T) = ap {B = Tree k} (arr n) (sub-id T)
-sub-id {k} (struct N rs) = ap {B = Tree k} (struct N) (map-id rs)
 
 pub sub-sub : {i j k : RegionKind} (σ : Region j → Region k) (τ : Region i → Region j) (T : Tree i) → sub σ (sub τ T) ≡ sub (λ r. σ (τ r)) T
 unfolding sub
@@ -51,13 +40,6 @@ arg-map σ rs v h = getD-map σ rs (v .number) (region nowhere) (region nowhere)
 -- ---- what a substitution keeps
 
 module _ {j k : RegionKind} (σ : Region j → Region k) where
-  pub sub-form : (T : Tree j) → form (sub σ T) ≡ form T
-  unfolding sub
-  sub-form (int w) = refl
-  sub-form (ptr T r) = refl
-  sub-form (arr n T) = refl
-  sub-form (struct N rs) = refl
-
   pub sub-width : (T : Tree j) → width (sub σ T) ≡ width T
   unfolding sub
   sub-width (int w) = refl
@@ -71,13 +53,6 @@ module _ {j k : RegionKind} (σ : Region j → Region k) where
   sub-prim (ptr T r) p = pointer
   sub-prim (arr n T) p = elim p [ ]
   sub-prim (struct N rs) p = elim p [ ]
-
-  pub prim-sub : (T : Tree j) → Primitive (sub σ T) → Primitive T
-  unfolding sub
-  prim-sub (int w) p = integer
-  prim-sub (ptr T r) p = pointer
-  prim-sub (arr n T) p = elim p [ ]
-  prim-sub (struct N rs) p = elim p [ ]
 
 -- ---- regions used
 

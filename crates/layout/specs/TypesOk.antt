@@ -24,10 +24,7 @@ pub data GoodTree {k : RegionKind} (m : Module) : Tree k → Type 0 where
   good-arr : {n : ℕ} {T : Tree k} → 0 < n → size m (arr n T) ≤ sizeLimit → GoodTree m T → GoodTree m (arr n T)
   good-struct : {N : ℕ} {rs : List (Region k)} → size m (struct N rs) ≤ sizeLimit → length rs ≡ m .arity N → GoodTree m (struct N rs)
 
--- what a pointer points to, and an element
-pub good-target : {k : RegionKind} {m : Module} {T : Tree k} {r : Region k} → GoodTree m (ptr T r) → GoodTree m T
-good-target (good-ptr g) = g
-
+-- an element
 pub good-element : {k : RegionKind} {m : Module} {n : ℕ} {T : Tree k} → GoodTree m (arr n T) → GoodTree m T
 good-element (good-arr h s g) = g
 

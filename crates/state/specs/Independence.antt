@@ -18,10 +18,10 @@ use Rattle.rules.specs.State.{markPlace, memoryPlace, memoryByte, memoryNumber,
 use Rattle.rules.specs.Step.{Effect, assign, fetch, save, takePlace, grantPage, freePlace, goTo, emit, push, pop, finish, stop, stuck, need, decHeld, calleeMap, calleeRegisters, returned, exec, effectAt, effectOf, closes}
 use Rattle.rules.specs.Writes.{closing, leaving, setAndOn, stateWrites, applyState}
 use Rattle.rules.specs.Claim.{SameButPages, Reads, Changes}
-use Rattle.state.specs.Update.{stored-apart, zeroed-in, zeroed-out, memoryNumber-agree}
+use Rattle.state.specs.Update.{stored-apart, zeroed-out, memoryNumber-agree}
 use Rattle.state.specs.Apply.{apply}
 use Rattle.state.specs.Areas.{view-eq, memory-agree, stack-same, owners-same, marks-same, status-agree, frames-agree, outputCount-agree, result-agree, withMemory}
-use Rattle.state.specs.Puts.{after, stored-in}
+use Rattle.state.specs.Puts.{after}
 use Rattle.state.specs.Effects.{Bounded, view-apply}
 use Rattle.state.specs.Reads.{memory-is}
 
@@ -183,25 +183,6 @@ memory-kept m k (pop c a x) v i n = refl
 memory-kept m k (finish x) v i n = refl
 memory-kept m k (stop j) v i n = refl
 memory-kept m k stuck v i n = refl
-
--- what a store or a grant leaves there depends on no page byte: the value stored, or zero
-pub memory-changed : (m : Module) (k : ℕ) (e : Effect) (u v : View) (i : ℕ) → Changes e i → apply m k e u .memory i ≡ apply m k e v .memory i
-memory-changed m k (assign a x) u v i h = absurd h
-memory-changed m k (fetch b a x w) u v i h = absurd h
-memory-changed m k (save b x w y) u v i h =
-    let a : i ≡ x + (i - x) = omega (arith, h .0) in
-    let c : i - x < w = omega (arith, h .0, h .1) in
-    stored-in (u .memory) x w y (i - x) i a c ∙ sym (stored-in (v .memory) x w y (i - x) i a c)
-memory-changed m k (takePlace p j a x) u v i h = absurd h
-memory-changed m k (grantPage p r a) u v i h = zeroed-in (u .memory) p i h ∙ sym (zeroed-in (v .memory) p i h)
-memory-changed m k (freePlace p j) u v i h = absurd h
-memory-changed m k (goTo d) u v i h = absurd h
-memory-changed m k (emit x) u v i h = absurd h
-memory-changed m k (push g μ ρ) u v i h = absurd h
-memory-changed m k (pop c a x) u v i h = absurd h
-memory-changed m k (finish x) u v i h = absurd h
-memory-changed m k (stop n) u v i h = absurd h
-memory-changed m k stuck u v i h = absurd h
 
 pub memory-byte : (s : Bytes) (i : ℕ) → i < memoryBytes → view s .memory i ≡ byteAt s (memoryPlace i)
 unfolding view

@@ -12,6 +12,5 @@ pub mod Independence
 pub mod Marks
 pub mod Fields
 pub mod NewFrame
-pub mod Determined
 pub mod Pages
 pub mod Opening

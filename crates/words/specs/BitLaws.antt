@@ -41,21 +41,6 @@ bit-other b (suc i) zero v l d = omega arith
 bit-other b (suc i) (suc j) v l d =
     ap (λ (x : ℕ). bit x j) (half (b % 2) (withBit (b / 2) i v) (omega arith)) ∙ bit-other (b / 2) i j v l (λ e. d (ap suc e))
 
--- to set a bit to what it is changes nothing
-pub withBit-id : (b i : ℕ) → withBit b i (bit b i) ≡ b
-unfolding bit withBit
-withBit-id b zero = omega arith
-withBit-id b (suc i) = ap (λ (x : ℕ). b % 2 + 2 * x) (withBit-id (b / 2) i) ∙ omega arith
-
--- the later of two counts
-pub withBit-over : (b i u v : ℕ) → u < 2 → withBit (withBit b i u) i v ≡ withBit b i v
-unfolding withBit
-withBit-over b zero u v l = omega arith
-withBit-over b (suc i) u v l =
-    let e = half (b % 2) (withBit (b / 2) i u) (omega arith) in
-    let f : (b % 2 + 2 * withBit (b / 2) i u) % 2 ≡ b % 2 = omega arith in
-    rw (e, f, withBit-over (b / 2) i u v l)
-
 -- n bits stay n bits
 pub withBit-lt : (n b i v : ℕ) → v < 2 → i < n → b < 2 ^ n → withBit b i v < 2 ^ n
 unfolding withBit
@@ -80,28 +65,12 @@ bits-same (suc n) a b l m h =
     let q : a / 2 ≡ b / 2 = bits-same n (a / 2) (b / 2) (omega arith) (omega arith) (λ i k. h (suc i) (omega arith)) in
     omega arith
 
--- bits from n on of a number of n bits
-pub bit-past : (n b i : ℕ) → b < 2 ^ n → n ≤ i → bit b i ≡ 0
-unfolding bit
-bit-past zero b i l h = let e : b ≡ 0 = omega arith in rw e (bit-zero i)
-bit-past (suc n) b zero l h = absurd (omega arith)
-bit-past (suc n) b (suc i) l h = let e : 2 ^ suc n ≡ 2 ^ n * 2 = pow-suc 2 n in bit-past n (b / 2) i (omega arith) (omega arith)
-
 -- ---- how code computes them
 
 pub bit-shift : (b i : ℕ) → b / 2 ^ i % 2 ≡ bit b i
 unfolding bit
 bit-shift b zero = ap (λ (x : ℕ). x % 2) (div-one b)
 bit-shift b (suc i) = ap (λ (x : ℕ). b / x % 2) (pow-suc 2 i ∙ omega arith) ∙ ap (λ (x : ℕ). x % 2) (sym (div-div-eq-div-mul b 2 (2 ^ i))) ∙ bit-shift (b / 2) i
-
--- a bit that is 0 is set by a sum
-pub set-adds : (b i : ℕ) → bit b i ≡ 0 → withBit b i 1 ≡ b + 2 ^ i
-unfolding bit withBit
-set-adds b zero e = omega arith
-set-adds b (suc i) e =
-    let h : withBit (b / 2) i 1 ≡ b / 2 + 2 ^ i = set-adds (b / 2) i e in
-    let q : 2 ^ suc i ≡ 2 ^ i * 2 = pow-suc 2 i in
-    omega arith
 
 -- set and cleared differ by the bit's weight
 pub set-clear : (b i : ℕ) → withBit b i 1 ≡ withBit b i 0 + 2 ^ i
@@ -111,10 +80,6 @@ set-clear b (suc i) =
     let h : withBit (b / 2) i 1 ≡ withBit (b / 2) i 0 + 2 ^ i = set-clear (b / 2) i in
     let q : 2 ^ suc i ≡ 2 ^ i * 2 = pow-suc 2 i in
     omega arith
-
--- a bit that is 1 is cleared by a difference
-pub clear-subtracts : (b i : ℕ) → bit b i ≡ 1 → withBit b i 0 + 2 ^ i ≡ b
-clear-subtracts b i e = sym (set-clear b i) ∙ ap (withBit b i) (sym e) ∙ withBit-id b i
 
 -- an or with the mask sets the bit
 pub or-sets : (b i : ℕ) → bitOr b (2 ^ i) ≡ withBit b i 1

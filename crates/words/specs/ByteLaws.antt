@@ -1,18 +1,17 @@
 -- Laws of bytes. First `splice`, the one write, over lists of anything: what it leaves at each index, and how two of them meet.
--- Then numbers: what is read after a write (`number-put` is THE apartness law), puts and fills as instances of `splice`, the widths of the
+-- Then numbers: what is read after a write (`number-splice` is THE apartness law), puts and fills as instances of `splice`, the widths of the
 -- code written out. Last the list of a function's values. All over every width and place at once. Assumes nothing.
 use mathlib.Core.Path.{_≡_, refl, sym, ap, ap₂, _∙_}
 use mathlib.Core.List.{List, [], _∷_, _++_}
 use mathlib.Core.Logic.{_⊎_, inl, inr, ⊎-elim}
 use Prim.Native.Nat.{ℕ, zero, suc, _+_, _-_, _*_, _/_, _%_, _^_, _≤_, _<_}
 use native.Mathlib.Nat.{not-suc-le-zero, mod-one, mod-lt, mod-eq-of-lt, pow-suc, add-zero, zero-add, suc-add, mul-comm, mul-assoc, div-div-eq-div-mul}
-use native.Mathlib.Numerals.{add-one, one-add, towards-suc}
+use native.Mathlib.Numerals.{one-add, towards-suc}
 use native.Mathlib.Decide.{decLt}
 use native.Mathlib.Omega.{arith}
 use lib.Arith.{mod-mul, digits-lt}
 use lib.Dec.{lit<}
 use lib.ListN.{length, getD, set, take, drop, replicate, length-replicate, getD-replicate, replicate-append-replicate, List·getD-eq-default}
-use lib.Seq.{ext-getD, getD-drop, getD-take}
 use Rattle.words.specs.Bytes.{Bytes, AllBytes, byteAt, number, little, splice, put, fill, listFrom, listOf}
 
 -- the n elements from i on and the m elements from k on share none
@@ -30,10 +29,6 @@ apart n i m k h = by (decLt i (k + m))
         after : Dec (k < i + n) → i + n ≤ k
         after (yes b) = absurd (h a b)
         after (no b) = omega arith
-
-pub apart-sym : (n i m k : ℕ) → Apart n i m k → Apart m k n i
-apart-sym n i m k (inl a) = inr a
-apart-sym n i m k (inr a) = inl a
 
 module _ {A : Type 0} where
   -- a length never changes
@@ -158,28 +153,6 @@ module _ {A : Type 0} where
   splice-over (x ∷ s) zero (z ∷ m) zero [] a b = absurd (omega arith)
   splice-over (x ∷ s) zero (z ∷ m) zero (y ∷ l) a b = ap (λ (r : List A). y ∷ r) (splice-over s zero m zero l (omega arith) (omega arith))
 
-  inside-at : (s : List A) (i : ℕ) (l : List A) (j k : ℕ) (m : List A) → j ≡ i + k → k + length m ≤ length l
-      → splice (splice s i l) j m ≡ splice s i (splice l k m)
-  unfolding splice
-  inside-at [] i l j k m e h = refl
-  inside-at (x ∷ s) (suc i) l zero k m e h = absurd (omega arith)
-  inside-at (x ∷ s) (suc i) l (suc j) k m e h = ap (λ (r : List A). x ∷ r) (inside-at s i l j k m (omega arith) h)
-  inside-at (x ∷ s) zero [] zero k [] e h = refl
-  inside-at (x ∷ s) zero [] zero k (z ∷ m) e h = absurd (omega arith)
-  inside-at (x ∷ s) zero [] (suc j) k m e h = absurd (omega arith)
-  inside-at (x ∷ s) zero (y ∷ l) zero zero [] e h = refl
-  inside-at (x ∷ s) zero (y ∷ l) zero zero (z ∷ m) e h =
-      ap (λ (r : List A). z ∷ r) (inside-at s zero l zero zero m (omega arith) (omega arith))
-  inside-at (x ∷ s) zero (y ∷ l) zero (suc k) m e h = absurd (omega arith)
-  inside-at (x ∷ s) zero (y ∷ l) (suc j) zero m e h = absurd (omega arith)
-  inside-at (x ∷ s) zero (y ∷ l) (suc j) (suc k) m e h =
-      ap (λ (r : List A). y ∷ r) (inside-at s zero l j k m (omega arith) (omega arith))
-
-  -- a write inside an earlier one is one write
-  pub splice-inside : (s : List A) (i : ℕ) (l : List A) (k : ℕ) (m : List A) → k + length m ≤ length l
-      → splice (splice s i l) (i + k) m ≡ splice s i (splice l k m)
-  splice-inside s i l k m h = inside-at s i l (i + k) k m refl h
-
   -- ---- against what stands there
 
   -- past the end nothing is written
@@ -204,13 +177,6 @@ module _ {A : Type 0} where
       → splice s i l ≡ s
   splice-same d s i l h = same-at d s i l (λ j k e a b. rw e (h k a (rw e at b)))
 
-  pub splice-part : (s : List A) (i n : ℕ) → splice s i (take n (drop i s)) ≡ s
-  unfolding splice
-  splice-part [] i n = refl
-  splice-part (x ∷ s) (suc i) n = ap (λ (r : List A). x ∷ r) (splice-part s i n)
-  splice-part (x ∷ s) zero zero = refl
-  splice-part (x ∷ s) zero (suc n) = ap (λ (r : List A). x ∷ r) (splice-part s zero n)
-
   -- what was written stands there
   pub part-splice : (s : List A) (i : ℕ) (l : List A) → i + length l ≤ length s → take (length l) (drop i (splice s i l)) ≡ l
   unfolding splice
@@ -219,20 +185,6 @@ module _ {A : Type 0} where
   part-splice (x ∷ s) (suc i) l h = part-splice s i l (omega arith)
   part-splice (x ∷ s) zero [] h = refl
   part-splice (x ∷ s) zero (y ∷ l) h = ap (λ (r : List A). y ∷ r) (part-splice s zero l (omega arith))
-
-  -- a write as a cut and a paste: what a function leaves that lends the part in the middle
-  pub splice-parts : (s : List A) (i : ℕ) (l : List A) (j : ℕ) → j ≡ i + length l → j ≤ length s → splice s i l ≡ take i s ++ l ++ drop j s
-  unfolding splice
-  splice-parts [] zero [] zero e h = refl
-  splice-parts [] zero (y ∷ l) zero e h = absurd (omega arith)
-  splice-parts [] (suc i) l zero e h = absurd (omega arith)
-  splice-parts [] i l (suc j) e h = absurd (not-suc-le-zero h)
-  splice-parts (x ∷ s) (suc i) l zero e h = absurd (omega arith)
-  splice-parts (x ∷ s) (suc i) l (suc j) e h = ap (λ (r : List A). x ∷ r) (splice-parts s i l j (omega arith) (omega arith))
-  splice-parts (x ∷ s) zero [] zero e h = refl
-  splice-parts (x ∷ s) zero [] (suc j) e h = absurd (omega arith)
-  splice-parts (x ∷ s) zero (y ∷ l) zero e h = absurd (omega arith)
-  splice-parts (x ∷ s) zero (y ∷ l) (suc j) e h = ap (λ (r : List A). y ∷ r) (splice-parts s zero l j (omega arith) (omega arith))
 
   -- a list as long takes the other's place
   pub splice-whole : (s l : List A) → length l ≡ length s → splice s zero l ≡ l
@@ -258,24 +210,12 @@ replicate-bytes zero v h k = lit< tt
 replicate-bytes (suc n) v h zero = h
 replicate-bytes (suc n) v h (suc k) = replicate-bytes n v h k
 
-pub put-bytes : (n : ℕ) (s : Bytes) (i v : ℕ) → AllBytes s → AllBytes (put n s i v)
-unfolding put
-put-bytes n s i v g = splice-bytes s i (little n v) g (little-bytes n v)
-
-pub fill-bytes : (n : ℕ) (s : Bytes) (i v : ℕ) → v < 256 → AllBytes s → AllBytes (fill n s i v)
-unfolding fill
-fill-bytes n s i v h g = splice-bytes s i (replicate n v) g (replicate-bytes n v h)
-
 -- ---- lengths
 
 pub length-little : (n v : ℕ) → length (little n v) ≡ n
 unfolding little
 length-little zero v = refl
 length-little (suc n) v = ap suc (length-little n (v / 256))
-
-pub length-put : (n : ℕ) (s : Bytes) (i v : ℕ) → length (put n s i v) ≡ length s
-unfolding put
-length-put n s i v = length-splice s i (little n v)
 
 pub length-fill : (n : ℕ) (s : Bytes) (i v : ℕ) → length (fill n s i v) ≡ length s
 unfolding fill
@@ -339,17 +279,9 @@ byte-past s i h = List·getD-eq-default s 0 h
 pub number-past : (n : ℕ) (s : Bytes) (i : ℕ) → length s ≤ i → number n s i ≡ 0
 number-past n s i h = number-zero n s i (λ j a b. byte-past s j (omega arith))
 
--- a number of a part: what a function reads that is lent `s[a..e]`
-pub number-drop : (n : ℕ) (s : Bytes) (i k : ℕ) → number n (drop i s) k ≡ number n s (i + k)
-number-drop n s i k =
-    number-moved n (drop i s) s k (i + k) (λ j h. let e : i + k + j ≡ i + (k + j) = omega arith in rw e (getD-drop i s (k + j) 0))
-
-pub number-take : (n : ℕ) (s : Bytes) (m k : ℕ) → k + n ≤ m → number n (take m s) k ≡ number n s k
-number-take n s m k h = number-agree n (take m s) s k (λ j a b. getD-take m s j 0 (omega arith))
-
 -- ---- numbers after a write
 
--- a write changes no number whose bytes lie apart
+-- THE apartness law: a write changes no number whose bytes lie apart
 pub number-splice : (s : Bytes) (i : ℕ) (l : Bytes) (m k : ℕ) → Apart (length l) i m k → number m (splice s i l) k ≡ number m s k
 number-splice s i l m k h =
     number-agree m (splice s i l) s k
@@ -361,24 +293,6 @@ pub number-in-splice : (n : ℕ) (s : Bytes) (i : ℕ) (l : Bytes) (k : ℕ) →
 number-in-splice n s i l k a b =
     number-moved n (splice s i l) l (i + k) k
     (λ j h. let e : i + k + j ≡ i + (k + j) = omega arith in rw e (getD-splice-add s i l (k + j) 0 (omega arith) (omega arith)))
-
--- THE apartness law: a put changes no number whose bytes lie apart
-pub number-put : (n i m k : ℕ) (s : Bytes) (v : ℕ) → Apart n i m k → number m (put n s i v) k ≡ number m s k
-unfolding put
-number-put n i m k s v h = number-splice s i (little n v) m k (rw length-little h)
-
-pub number-fill : (n i m k : ℕ) (s : Bytes) (v : ℕ) → Apart n i m k → number m (fill n s i v) k ≡ number m s k
-unfolding fill
-number-fill n i m k s v h = number-splice s i (replicate n v) m k (rw length-replicate h)
-
--- the same for a byte
-pub byte-put : (n : ℕ) (s : Bytes) (i v k : ℕ) → (k < i) ⊎ (i + n ≤ k) → byteAt (put n s i v) k ≡ byteAt s k
-unfolding put
-byte-put n s i v k h = getD-splice-out s i (little n v) k 0 (rw length-little h)
-
-pub byte-fill-out : (n : ℕ) (s : Bytes) (i v k : ℕ) → (k < i) ⊎ (i + n ≤ k) → byteAt (fill n s i v) k ≡ byteAt s k
-unfolding fill
-byte-fill-out n s i v k h = getD-splice-out s i (replicate n v) k 0 (rw length-replicate h)
 
 -- v cut to n bytes
 pub number-little : (n v : ℕ) → number n (little n v) 0 ≡ v % 256 ^ n
@@ -405,48 +319,6 @@ pub byte-fill : (n : ℕ) (s : Bytes) (i v k : ℕ) → i ≤ k → k < i + n �
 unfolding fill
 byte-fill n s i v k a b c =
     getD-splice-in s i (replicate n v) k 0 a (rw length-replicate b) c ∙ getD-replicate n (k - i) v 0 (omega arith)
-
--- a number in a part that is cleared is 0, also past the end
-pub number-cleared : (n : ℕ) (s : Bytes) (i m k : ℕ) → i ≤ k → k + m ≤ i + n → number m (fill n s i 0) k ≡ 0
-number-cleared n s i m k a b = number-zero m (fill n s i 0) k (λ j c d. by j c d (decLt j (length s)))
-  where
-    by : (j : ℕ) → k ≤ j → j < k + m → Dec (j < length s) → byteAt (fill n s i 0) j ≡ 0
-    by j c d (yes h) = byte-fill n s i 0 j (omega arith) (omega arith) h
-    by j c d (no h) = byte-past (fill n s i 0) j (rw length-fill (omega arith))
-
--- ---- two writes
-
-pub put-comm : (n i m k : ℕ) (s : Bytes) (u v : ℕ) → Apart n i m k → put m (put n s i u) k v ≡ put n (put m s k v) i u
-unfolding put
-put-comm n i m k s u v h = splice-comm s i (little n u) k (little m v) (rw (length-little n u, length-little m v) h)
-
--- a put and a fill that lie apart
-pub put-fill-comm : (n i m k : ℕ) (s : Bytes) (u v : ℕ) → Apart n i m k → put m (fill n s i u) k v ≡ fill n (put m s k v) i u
-unfolding put fill
-put-fill-comm n i m k s u v h = splice-comm s i (replicate n u) k (little m v) (rw (length-replicate n u, length-little m v) h)
-
-pub fill-comm : (n i m k : ℕ) (s : Bytes) (u v : ℕ) → Apart n i m k → fill m (fill n s i u) k v ≡ fill n (fill m s k v) i u
-unfolding fill
-fill-comm n i m k s u v h = splice-comm s i (replicate n u) k (replicate m v) (rw (length-replicate n u, length-replicate m v) h)
-
--- a put that covers another leaves nothing of it
-pub put-over : (m n i k : ℕ) (s : Bytes) (u v : ℕ) → i ≤ k → k + m ≤ i + n → put n (put m s k u) i v ≡ put n s i v
-unfolding put
-put-over m n i k s u v a b = splice-over s k (little m u) i (little n v) a (rw (length-little m u, length-little n v) b)
-
--- the later of two puts at one place counts
-pub put-put : (n : ℕ) (s : Bytes) (i u v : ℕ) → put n (put n s i u) i v ≡ put n s i v
-put-put n s i u v = put-over n n i i s u v (omega arith) (omega arith)
-
--- a fill that covers a put leaves nothing of it
-pub fill-over-put : (m n i k : ℕ) (s : Bytes) (u v : ℕ) → i ≤ k → k + m ≤ i + n → fill n (put m s k u) i v ≡ fill n s i v
-unfolding put fill
-fill-over-put m n i k s u v a b = splice-over s k (little m u) i (replicate n v) a (rw (length-little m u, length-replicate n v) b)
-
--- a fill that covers another leaves nothing of it
-pub fill-over : (m n i k : ℕ) (s : Bytes) (u v : ℕ) → i ≤ k → k + m ≤ i + n → fill n (fill m s k u) i v ≡ fill n s i v
-unfolding fill
-fill-over m n i k s u v a b = splice-over s k (replicate m u) i (replicate n v) a (rw (length-replicate m u, length-replicate n v) b)
 
 -- ---- puts and numbers
 
@@ -483,15 +355,6 @@ little-cut (suc n) v =
 pub put-cut : (n : ℕ) (s : Bytes) (i v : ℕ) → put n s i (v % 256 ^ n) ≡ put n s i v
 unfolding put
 put-cut n s i v = ap (splice s i) (little-cut n v)
-
-little-zero : (n : ℕ) → little n 0 ≡ replicate n 0
-unfolding little
-little-zero zero = refl
-little-zero (suc n) = ap (λ (r : Bytes). 0 ∷ r) (little-zero n)
-
-pub put-zero : (n : ℕ) (s : Bytes) (i : ℕ) → put n s i 0 ≡ fill n s i 0
-unfolding put fill
-put-zero n s i = ap (splice s i) (little-zero n)
 
 -- ---- the widths of the code written out, the highest byte stored first
 
@@ -539,11 +402,6 @@ fill-up n s i v =
     ∙ splice-snoc s i (replicate n v) v
     ∙ ap (λ (k : ℕ). set (splice s i (replicate n v)) (i + k) v) (length-replicate n v)
 
--- one byte more, downward
-pub fill-down : (n : ℕ) (s : Bytes) (i v : ℕ) → fill (n + 1) s i v ≡ set (fill n s (i + 1) v) i v
-unfolding fill
-fill-down n s i v = rw (add-one n, add-one i) (splice-cons s i v (replicate n v))
-
 -- ---- the list of a function's values
 
 module _ {A : Type 0} (g : ℕ → A) where
@@ -566,11 +424,6 @@ module _ {A : Type 0} (g : ℕ → A) where
 
   pub listOf-past : (n k : ℕ) (d : A) → n ≤ k → getD (listOf g n) k d ≡ d
   listOf-past n k d h = List·getD-eq-default (listOf g n) d (rw length-listOf h)
-
--- the list of a list's elements
-pub listOf-is : {A : Type 0} (d : A) (g : ℕ → A) (n : ℕ) (l : List A) → length l ≡ n → ((k : ℕ) → k < n → getD l k d ≡ g k) → listOf g n ≡ l
-listOf-is d g n l e h =
-    ext-getD d (listOf g n) l (length-listOf g n ∙ sym e) (λ k a. let b : k < n = rw length-listOf at a in getD-listOf g n k d b ∙ sym (h k b))
 
 pub listFrom-agree : {A : Type 0} (g h : ℕ → A) (a n : ℕ) → ((k : ℕ) → a ≤ k → k < a + n → g k ≡ h k) → listFrom g a n ≡ listFrom h a n
 unfolding listFrom

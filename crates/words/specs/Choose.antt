@@ -2,9 +2,8 @@
 -- Assumes nothing.
 use mathlib.Core.Path.{_≡_, refl, sym, ap, _∙_}
 use mathlib.Core.Bool.{Bool, true, false, cond, not, _&&_, _||_, true≢false, false≢true}
-use mathlib.Core.Logic.{_≢_, _⊎_, inl, inr, ⊎-elim, _↔_, ite}
+use mathlib.Core.Logic.{_≢_, _⊎_, inl, inr, ⊎-elim, _↔_}
 use Prim.Native.Nat.{ℕ, _≤_, _<_}
-use native.Mathlib.Decide.{decLe, decLt, ℕ-discrete}
 use lib.Dec.{ltb, leb, eqb}
 use borrow.Author.Tests.{ltb-true, ltb-false, leb-true, leb-false, lt-ltb, le-ltb, le-leb, lt-leb, eqb-true, eqb-false, eq-eqb, ne-eqb}
 
@@ -71,20 +70,6 @@ pub cond-ap : {A B : Type 0} (f : A → B) (b : Bool) (x y : A) → f (cond b x 
 cond-ap f true x y = refl
 cond-ap f false x y = refl
 
--- a choice by a compound test is a nest of choices
-module _ {A : Type 0} where
-  pub cond-not : (b : Bool) (x y : A) → cond (not b) x y ≡ cond b y x
-  cond-not true x y = refl
-  cond-not false x y = refl
-
-  pub cond-and : (a b : Bool) (x y : A) → cond (a && b) x y ≡ cond a (cond b x y) y
-  cond-and true b x y = refl
-  cond-and false b x y = refl
-
-  pub cond-or : (a b : Bool) (x y : A) → cond (a || b) x y ≡ cond a x (cond b x y)
-  cond-or true b x y = refl
-  cond-or false b x y = refl
-
 -- what each branch has under its test, the whole has
 module _ {A : Type 0} (P : A → Type 0) where
   pub cond-split : (b : Bool) (x y : A) → (b ≡ true → P x) → (b ≡ false → P y) → P (cond b x y)
@@ -101,31 +86,9 @@ module _ {A : Type 0} (P : A → Type 0) where
   split-eq m n x y h k = cond-split (eqb m n) x y (λ e. h (eqb-true m n e)) (λ e. k (eqb-false m n e))
 
 -- the branch that a value came from, where it has what the other branch has not
-pub came-yes : {A : Type 0} (P : A → Type 0) (b : Bool) (x y : A) → (P y → ⊥) → P (cond b x y) → (b ≡ true) × P x
-came-yes P true x y h p = (refl, p)
-came-yes P false x y h p = absurd (h p)
-
 pub came-no : {A : Type 0} (P : A → Type 0) (b : Bool) (x y : A) → (P x → ⊥) → P (cond b x y) → (b ≡ false) × P y
 came-no P true x y h p = absurd (h p)
 came-no P false x y h p = (refl, p)
-
--- ---- a choice by a test is the choice by a decision
-
-module _ {A : Type 0} (x y : A) where
-  pub cond-ite : {P : Type 0} (b : Bool) (d : Dec P) → (b ≡ true) ↔ P → cond b x y ≡ ite d x y
-  cond-ite true (yes p) r = refl
-  cond-ite true (no n) r = absurd (n (r .0 refl))
-  cond-ite false (yes p) r = absurd (false≢true (r .1 p))
-  cond-ite false (no n) r = refl
-
-  pub le-ite : (m n : ℕ) → cond (leb m n) x y ≡ ite (decLe m n) x y
-  le-ite m n = cond-ite (leb m n) (decLe m n) (leb-true m n, le-leb m n)
-
-  pub lt-ite : (m n : ℕ) → cond (ltb m n) x y ≡ ite (decLt m n) x y
-  lt-ite m n = cond-ite (ltb m n) (decLt m n) (ltb-true m n, lt-ltb m n)
-
-  pub eq-ite : (m n : ℕ) → cond (eqb m n) x y ≡ ite (ℕ-discrete m n) x y
-  eq-ite m n = cond-ite (eqb m n) (ℕ-discrete m n) (eqb-true m n, eq-eqb m n)
 
 -- ---- and, or, not: taken apart and put together
 
@@ -172,15 +135,6 @@ pub not-false : (b : Bool) → not b ≡ false → b ≡ true
 not-false true e = refl
 not-false false e = absurd (true≢false e)
 
--- `not a || b`: where a holds, b is asked
-pub asks : (a b : Bool) → a ≡ true → not a || b ≡ true → b ≡ true
-asks true b e h = h
-asks false b e h = absurd (false≢true e)
-
-pub asks-of : (a b : Bool) → (a ≡ true → b ≡ true) → not a || b ≡ true
-asks-of true b h = h refl
-asks-of false b h = refl
-
 -- ---- how a test reads: one line for a clause of a larger test
 
 pub lt-reads : (m n : ℕ) → (ltb m n ≡ true) ↔ (m < n)
@@ -199,18 +153,3 @@ and-reads a b p q =
 pub or-reads : {P Q : Type 0} (a b : Bool) → (a ≡ true) ↔ P → (b ≡ true) ↔ Q → (a || b ≡ true) ↔ (P ⊎ Q)
 or-reads a b p q =
     (λ e. ⊎-elim (λ x. inl (p .0 x)) (λ x. inr (q .0 x)) (either a b e), ⊎-elim (λ x. left-of a b (p .1 x)) (λ x. right-of a b (q .1 x)))
-
-pub not-reads : {P : Type 0} (a : Bool) → (a ≡ true) ↔ P → (not a ≡ true) ↔ (P → ⊥)
-not-reads true p = (λ e x. false≢true e, λ h. absurd (h (p .0 refl)))
-not-reads false p = (λ e x. false≢true (p .1 x), λ h. refl)
-
--- under a test that fails nothing is asked
-pub asks-reads : {P Q : Type 0} (a b : Bool) → (a ≡ true) ↔ P → (b ≡ true) ↔ Q → (not a || b ≡ true) ↔ (P → Q)
-asks-reads a b p q = (λ e x. q .0 (asks a b (p .1 x) e), λ h. asks-of a b (λ e. q .1 (h (p .0 e))))
-
-pub cond-reads : {P Q R : Type 0} (a b d : Bool) → (a ≡ true) ↔ P → (b ≡ true) ↔ Q → (d ≡ true) ↔ R
-    → (cond a b d ≡ true) ↔ ((P × Q) ⊎ ((P → ⊥) × R))
-cond-reads true b d p q r =
-    (λ e. inl (p .0 refl, q .0 e), ⊎-elim (λ h. q .1 (h .1)) (λ h. absurd (h .0 (p .0 refl))))
-cond-reads false b d p q r =
-    (λ e. inr (λ x. false≢true (p .1 x), r .0 e), ⊎-elim (λ h. absurd (false≢true (p .1 (h .0)))) (λ h. r .1 (h .1)))

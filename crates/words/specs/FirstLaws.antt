@@ -1,14 +1,14 @@
 -- Laws of `first`, `allBelow` and `sumBelow`: what a scan shows at its end, and how it reads. Assumes nothing.
-use mathlib.Core.Path.{_≡_, refl, sym, ap₂, _∙_}
-use mathlib.Core.Bool.{Bool, true, false, _&&_, false≢true}
-use mathlib.Core.Logic.{_≢_, ⊎-elim, _↔_}
-use Prim.Native.Nat.{ℕ, zero, suc, _+_, _-_, _*_, _≤_, _<_}
-use native.Mathlib.Nat.{zero-add, add-zero, add-suc}
+use mathlib.Core.Path.{_≡_, refl, sym, _∙_}
+use mathlib.Core.Bool.{Bool, true, false, false≢true}
+use mathlib.Core.Logic.{⊎-elim, _↔_}
+use Prim.Native.Nat.{ℕ, zero, suc, _+_, _*_, _≤_, _<_}
+use native.Mathlib.Nat.{zero-add}
 use native.Mathlib.Numerals.{add-one}
 use native.Mathlib.Decide.{decLt}
 use native.Mathlib.Omega.{arith}
 use Rattle.words.specs.First.{firstFrom, first, allBelow, sumBelow}
-use Rattle.words.specs.Choose.{true-not-false, false-by, lt-or-le, bool-same}
+use Rattle.words.specs.Choose.{true-not-false, false-by, lt-or-le}
 
 -- ---- the first failure
 
@@ -88,28 +88,11 @@ module _ (n : ℕ) (t : ℕ → Bool) where
   pub first-all : n ≤ first n t → (j : ℕ) → j < n → t j ≡ true
   first-all h j l = first-before j (omega arith)
 
-  -- an index that fails is not before the first one that does
-  pub first-at-most : (j : ℕ) → t j ≡ false → first n t ≤ j
-  first-at-most j e = ⊎-elim (λ h. absurd (true-not-false (first-before j h) e)) (λ h. h) (lt-or-le j (first n t))
-
-  -- a search may start where all before is known to pass
-  pub first-from : (i : ℕ) → i ≤ n → ((j : ℕ) → j < i → t j ≡ true) → first n t ≡ firstFrom t i (n - i)
-  first-from i h before =
-      let l = firstFrom-least t i (n - i) in
-      let e : i + (n - i) ≡ n = omega arith in
-      first-is (firstFrom t i (n - i)) (omega arith)
-      (λ j a. ⊎-elim (before j) (λ b. l .before j b a) (lt-or-le j i))
-      (λ a. l .fails (omega arith))
-
 -- tests equal below n have one first failure
 pub first-agree : (n : ℕ) (t u : ℕ → Bool) → ((j : ℕ) → j < n → t j ≡ u j) → first n t ≡ first n u
 first-agree n t u h =
     let w : first n u ≤ n = first-le n u in
     first-is n t (first n u) w (λ j l. h j (omega arith) ∙ first-before n u j l) (λ l. h (first n u) l ∙ first-fails n u l)
-
--- a failure that is found stays the first under a wider search
-pub first-wider : (n m : ℕ) (t : ℕ → Bool) → n ≤ m → first n t < n → first m t ≡ first n t
-first-wider n m t h l = first-is m t (first n t) (omega arith) (first-before n t) (λ _. first-fails n t l)
 
 -- ---- what a scan by `while i < n { if !t(i) { return i; } i += 1; }` has at its two ends
 module _ (n : ℕ) (t : ℕ → Bool) (i : ℕ) (before : (j : ℕ) → j < i → t j ≡ true) where
@@ -141,35 +124,12 @@ unfolding allBelow
 all-from zero t h = refl
 all-from (suc n) t h = and-elim (allBelow n t) (t n) (all-from n t (λ k l. h k (omega arith))) (h n (omega arith))
 
--- one index more, as a loop counts
-pub all-more : (n : ℕ) (t : ℕ → Bool) → allBelow (n + 1) t ≡ allBelow n t && t n
-unfolding allBelow
-all-more n t = rw add-one (by (allBelow n t) (t n))
-  where
-    by : (a b : Bool) → elim a [ true ↦ b | false ↦ false ] ≡ a && b
-    by true b = refl
-    by false b = refl
-
-pub all-reads : (n : ℕ) (t : ℕ → Bool) → (allBelow n t ≡ true) ↔ ((k : ℕ) → k < n → t k ≡ true)
-all-reads n t = (all-holds n t, all-from n t)
-
 -- the same for a test that reads as a fact
 pub all-as : {P : ℕ → Type 0} (n : ℕ) (t : ℕ → Bool) → ((k : ℕ) → (t k ≡ true) ↔ P k) → (allBelow n t ≡ true) ↔ ((k : ℕ) → k < n → P k)
 all-as n t h = (λ e k l. h k .0 (all-holds n t e k l), λ f. all-from n t (λ k l. h k .1 (f k l)))
 
 pub all-fails : (n : ℕ) (t : ℕ → Bool) (k : ℕ) → k < n → t k ≡ false → allBelow n t ≡ false
 all-fails n t k l e = false-by (λ h. true-not-false (all-holds n t h k l) e)
-
--- where it does not hold of all, the first failure is below n
-pub all-not : (n : ℕ) (t : ℕ → Bool) → allBelow n t ≡ false → first n t < n
-all-not n t e =
-    ⊎-elim (λ h. h) (λ h. absurd (true-not-false (all-from n t (first-all n t h)) e)) (lt-or-le (first n t) n)
-
-pub allBelow-agree : (n : ℕ) (t u : ℕ → Bool) → ((k : ℕ) → k < n → t k ≡ u k) → allBelow n t ≡ allBelow n u
-allBelow-agree n t u h =
-    bool-same (allBelow n t) (allBelow n u)
-    (λ e. all-from n u (λ k l. sym (h k l) ∙ all-holds n t e k l))
-    (λ e. all-from n t (λ k l. h k l ∙ all-holds n u e k l))
 
 -- what a scan that returns false at the first failure has at its two ends
 module _ (n : ℕ) (t : ℕ → Bool) (i : ℕ) where
@@ -181,38 +141,10 @@ module _ (n : ℕ) (t : ℕ → Bool) (i : ℕ) where
 
 -- ---- sums
 
-pub sumBelow-agree : (n : ℕ) (g h : ℕ → ℕ) → ((k : ℕ) → k < n → g k ≡ h k) → sumBelow n g ≡ sumBelow n h
-unfolding sumBelow
-sumBelow-agree zero g h e = refl
-sumBelow-agree (suc n) g h e = ap₂ _+_ (sumBelow-agree n g h (λ k l. e k (omega arith))) (e n (omega arith))
-
 -- one term more, as a loop counts
 pub sumBelow-more : (n : ℕ) (g : ℕ → ℕ) → sumBelow (n + 1) g ≡ sumBelow n g + g n
 unfolding sumBelow
 sumBelow-more n g = rw add-one
-
--- the first n terms and the m after them
-pub sumBelow-split : (n m : ℕ) (g : ℕ → ℕ) → sumBelow (n + m) g ≡ sumBelow n g + sumBelow m (λ k. g (n + k))
-unfolding sumBelow
-sumBelow-split n zero g = rw (add-zero n) (omega arith)
-sumBelow-split n (suc m) g = rw (add-suc n m) (let e = sumBelow-split n m g in omega arith)
-
--- term by term
-pub sumBelow-add : (n : ℕ) (f g h : ℕ → ℕ) → ((k : ℕ) → k < n → f k ≡ g k + h k) → sumBelow n f ≡ sumBelow n g + sumBelow n h
-unfolding sumBelow
-sumBelow-add zero f g h e = refl
-sumBelow-add (suc n) f g h e =
-    let a = sumBelow-add n f g h (λ k l. e k (omega arith)) in
-    let b = e n (omega arith) in
-    omega arith
-
-pub sumBelow-le : (n : ℕ) (g h : ℕ → ℕ) → ((k : ℕ) → k < n → g k ≤ h k) → sumBelow n g ≤ sumBelow n h
-unfolding sumBelow
-sumBelow-le zero g h e = omega arith
-sumBelow-le (suc n) g h e =
-    let a = sumBelow-le n g h (λ k l. e k (omega arith)) in
-    let b = e n (omega arith) in
-    omega arith
 
 -- at most c a term
 pub sumBelow-bound : (n c : ℕ) (g : ℕ → ℕ) → ((k : ℕ) → k < n → g k ≤ c) → sumBelow n g ≤ n * c
@@ -222,37 +154,3 @@ sumBelow-bound (suc n) c g e =
     let a = sumBelow-bound n c g (λ k l. e k (omega arith)) in
     let b = e n (omega arith) in
     omega arith
-
-pub sumBelow-zero : (n : ℕ) (g : ℕ → ℕ) → ((k : ℕ) → k < n → g k ≡ 0) → sumBelow n g ≡ 0
-unfolding sumBelow
-sumBelow-zero zero g e = refl
-sumBelow-zero (suc n) g e =
-    let a = sumBelow-zero n g (λ k l. e k (omega arith)) in
-    let b = e n (omega arith) in
-    omega arith
-
--- one term is at most the sum
-pub sumBelow-term : (n : ℕ) (g : ℕ → ℕ) (m : ℕ) → m < n → g m ≤ sumBelow n g
-unfolding sumBelow
-sumBelow-term zero g m l = absurd (omega arith)
-sumBelow-term (suc n) g m l =
-    ⊎-elim
-    (λ a. let h = sumBelow-term n g m a in omega arith)
-    (λ (a : n ≤ m). let e : m ≡ n = omega arith in rw e (omega arith))
-    (lt-or-le m n)
-
--- one term changed: the sums differ by it
-pub sumBelow-one : (n : ℕ) (g h : ℕ → ℕ) (m : ℕ) → m < n → ((k : ℕ) → k < n → k ≢ m → g k ≡ h k) → sumBelow n g + h m ≡ sumBelow n h + g m
-unfolding sumBelow
-sumBelow-one zero g h m l e = absurd (omega arith)
-sumBelow-one (suc n) g h m l e =
-    ⊎-elim
-    (λ a.
-    let i = sumBelow-one n g h m a (λ k b d. e k (omega arith) d) in
-    let f : g n ≡ h n = e n (omega arith) (λ q. omega arith) in
-    omega arith)
-    (λ (a : n ≤ m).
-    let q : m ≡ n = omega arith in
-    let i : sumBelow n g ≡ sumBelow n h = sumBelow-agree n g h (λ k b. e k (omega arith) (λ r. omega arith)) in
-    rw (q, i) (omega arith))
-    (lt-or-le m n)
