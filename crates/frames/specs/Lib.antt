@@ -3,4 +3,3 @@ pub mod Packed
 pub mod Regions
 pub mod Entered
 pub mod Left
-pub mod Applied

@@ -14,7 +14,6 @@ use Rattle.rules.specs.File.{records, recordOf, entryOf, regionsOf, returnOf, p
 use Rattle.rules.specs.Module.{Function, Instruction, regions}
 use Rattle.rules.specs.Walk.{whole}
 use Rattle.rules.specs.Decode.{treesOf, registersAt, codeAt, after, places, codePlaces, codeOf, functionOf, moduleOf, startOf, instructionAt}
-use Rattle.rules.specs.WellTyped.{scopeOf}
 use Rattle.rules.specs.declared.Record.{Record}
 use Rattle.walk.specs.Tables.{startsOf, start-below}
 use Rattle.walk.specs.Code.{registers-far, skip-far}
@@ -97,10 +96,6 @@ module _ (f : Bytes) (h : ℕ) where
   pub region-at : (i : ℕ) → functionAt f h .regionType i ≡ moduleOf f .term (regionTerm f h i)
   unfolding functionAt functionOf moduleOf regionTerm
   region-at i = refl
-
-  pub scope-at : (n j : ℕ) → scopeOf (functionAt f h) n j ≡ scopeIn (recordOf f h) n j
-  unfolding functionAt functionOf scopeOf scopeIn
-  scope-at n j = refl
 
   pub code-at : (i : ℕ) → functionAt f h .code i ≡ instructionIn f (placeIn f h i)
   unfolding functionAt functionOf instructionIn placeIn

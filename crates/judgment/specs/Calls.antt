@@ -124,15 +124,6 @@ module _ (f : Bytes) (h e : ℕ) (to : Bytes) (x y : Record) (is : map region to
       (all-as (functionAt f e .params) (callArgument f h e to y)
       (λ i. both-reads (register-reads (functionAt f h) (entryOf y i)) (does-reads (decTree (functionAt f h .registerType (entryOf y i)) (sub (under to) (functionAt f e .registerType i)))))))
 
-  rs : List Variable
-  rs = regionBytes x (functionAt f e .regionParams)
-
-  xs : List ℕ
-  xs = listOf (entryOf y) (functionAt f e .params)
-
-  G : Function
-  G = moduleOf f .function (x .b)
-
   callee : functionAt f e ≡ moduleOf f .function (x .b)
   callee = ap (functionAt f) at ∙ sym (function-at f (x .b))
 

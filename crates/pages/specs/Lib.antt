@@ -2,5 +2,4 @@
 pub mod Search
 pub mod Places
 pub mod Meaning
-pub mod Applied
 pub mod Known

@@ -4,7 +4,7 @@
 use mathlib.Core.Path.{_≡_, refl, sym, ap, _∙_, subst}
 use mathlib.Core.Bool.{Bool, true, false, cond, _&&_}
 use mathlib.Core.Logic.{_≢_}
-use mathlib.Core.List.{List, [], _∷_}
+use mathlib.Core.List.{[], _∷_}
 use Prim.Native.Nat.{ℕ, zero, suc, _+_, _*_, _/_, _%_, _<_, _≤_}
 use native.Mathlib.Nat.{div-add-mod, mod-lt, not-suc-le-zero}
 use native.Mathlib.Decide.{decLt}
@@ -52,11 +52,6 @@ pub record SteadyStep (m : Module) (form s o : Bytes) : Type 0 where
   pub safe : SafeStep m (stepOf m form s o)
   pub after : Steady m (stateAfter m (stepOf m form s o))
 
--- each step's effect keeps within the bounds
-abbrev pub AllBounded : List Step → Type 0
-AllBounded [] = Unit {0}
-AllBounded (t ∷ ts) = Bounded (view (t .state)) (t .top) (t .effect) × AllBounded ts
-
 module _ (m : Module) (ok : ModuleOk m) (form : Bytes) (form-bytes : AllBytes form) where
   steady-sound : (b : ℕ) (s o : Bytes) → Steady m s → Sound m s (runOf m form b s o)
   steady-sound b s o h = run-sound m ok form form-bytes b s o (passes-test m ok s (h .passes)) (record { size = h .passes .size; bytes = h .bytes; spare = h .passes .unread })
@@ -64,12 +59,6 @@ module _ (m : Module) (ok : ModuleOk m) (form : Bytes) (form-bytes : AllBytes fo
   -- the requires of `run`: no step of a run of any budget is stuck
   pub run-moves : (b : ℕ) (s o : Bytes) → Steady m s → stuckSteps (runOf m form b s o .steps) ≡ 0
   run-moves b s o h = steady-sound b s o h .none
-
-  -- a run leaves a steady state
-  pub run-steady : (b : ℕ) (s o : Bytes) → Steady m s → Steady m (runOf m form b s o .state)
-  run-steady b s o h =
-      let r = steady-sound b s o h in
-      record { bytes = r .whole .bytes; passes = test-passes m ok (runOf m form b s o .state) (r .whole .size) (r .whole .spare) (r .test) }
 
   -- the loop's invariant, step by step
   pub step-steady : (s o : Bytes) → Steady m s → view s .status ≡ 0 → SteadyStep m form s o
@@ -85,32 +74,10 @@ module _ (m : Module) (ok : ModuleOk m) (form : Bytes) (form-bytes : AllBytes fo
         after = record { bytes = p .whole .bytes; passes = test-passes m ok (stateAfter m (stepOf m form s o)) (p .whole .size) (p .whole .spare) (p .test) };
       }
 
-  pub run-bounded : (b : ℕ) (s o : Bytes) → Steady m s → AllBounded (runOf m form b s o .steps)
-  unfolding runOf
-  run-bounded zero s o h = tt
-  run-bounded (suc b) s o h = go (eqb (view s .status) 0) refl (λ y u p. run-bounded b y u p)
-    where
-      go : (d : Bool) → eqb (view s .status) 0 ≡ d → ((y u : Bytes) → Steady m y → AllBounded (runOf m form b y u .steps))
-          → AllBounded ((elim d as (λ _. Trace) [
-            | true ↦
-                let t : Step = stepOf m form s o in
-                let r : Trace = runOf m form b (stateAfter m t) (outputAfter t) in
-                record { steps = t ∷ r .steps; state = r .state; output = r .output }
-            | false ↦ noSteps s o
-          ]) .steps)
-      go true e ih =
-          let p = step-steady s o h (eqb-true (view s .status) 0 e) in
-          (p .bounds, ih (stateAfter m (stepOf m form s o)) (outputAfter (stepOf m form s o)) (p .after))
-      go false e ih = tt
-
 -- of an accepted file
 pub accepted-moves : (f form : Bytes) (b : ℕ) (s o : Bytes) → IsAccepted (verdictOf f) → AllBytes form → AllBytes s → Passes (moduleOf f) s
     → stuckSteps (runOf (moduleOf f) form b s o .steps) ≡ 0
 accepted-moves f form b s o acc h l p = run-moves (moduleOf f) (accepted-ok f acc) form h b s o (record { bytes = l; passes = p })
-
-pub accepted-bounded : (f form : Bytes) (b : ℕ) (s o : Bytes) → IsAccepted (verdictOf f) → AllBytes form → AllBytes s → Passes (moduleOf f) s
-    → AllBounded (runOf (moduleOf f) form b s o .steps)
-accepted-bounded f form b s o acc h l p = run-bounded (moduleOf f) (accepted-ok f acc) form h b s o (record { bytes = l; passes = p })
 
 -- ---- "Running means the whole budget is used"
 

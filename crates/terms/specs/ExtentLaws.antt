@@ -11,9 +11,9 @@ use lib.ListN.{length, getD, length-append, length-map, List·getD-append, List�
 use lib.Seq.{getD-at}
 use Rattle.words.specs.Bytes.{Bytes, listFrom, listOf}
 use Rattle.words.specs.ByteLaws.{listOf-agree}
-use Rattle.words.specs.Choose.{cond-le, cond-nle, split-le, lt-or-le}
+use Rattle.words.specs.Choose.{cond-le, cond-nle, lt-or-le}
 use Rattle.rules.specs.File.{recordOf, entryOf}
-use Rattle.rules.specs.Types.{RegionKind, variable, Region, Tree, int, ptr, arr, struct, arg, sub}
+use Rattle.rules.specs.Types.{RegionKind, variable, Region, Tree, arg}
 use Rattle.rules.specs.Module.{Module}
 use Rattle.rules.specs.Flat.{Layout, count, none, moved, packed, beside, copiesOf, copies, placedIn, subLayout, flatWith, fieldsFrom, fieldsWith, layouts, flat, structFlat}
 use Rattle.rules.specs.Decode.{noTree, treesOf, structStart, fieldsOf, moduleOf}
@@ -33,10 +33,6 @@ cap-same c h = cond-le c 257 h
 pub cap-over : (c : ℕ) → 256 < c → cap c ≡ 257
 unfolding cap
 cap-over c h = cond-nle c 257 h
-
-pub cap-le : (c : ℕ) → cap c ≤ 257
-unfolding cap
-cap-le c = split-le (λ (x : ℕ). x ≤ 257) c 256 c 257 (λ h. omega arith) (λ h. omega arith)
 
 cap-plus : (a b : ℕ) → cap (a + b) ≡ cap (cap a + cap b)
 cap-plus a b = ⊎-elim left (λ p. ⊎-elim (right p) (λ q. ap₂ (λ (x y : ℕ). cap (x + y)) (sym (cap-same a p)) (sym (cap-same b q))) (lt-or-le 256 b)) (lt-or-le 256 a)
@@ -111,14 +107,6 @@ module _ {k : RegionKind} where
 pub extent-sub : {j k : RegionKind} (σ : Region j → Region k) (L : Layout j) → extentOf (subLayout σ L) ≡ extentOf L
 unfolding subLayout
 extent-sub σ L = ap (λ (c : ℕ). record { size = L .size; count = cap c }) (length-map (L .prims) (placedIn σ))
-
--- sizes and counts do not depend on regions
-pub extent-with-sub : {j k : RegionKind} (ls : List (Layout variable)) (σ : Region j → Region k) (T : Tree j) → extentOf (flatWith ls (sub σ T)) ≡ extentOf (flatWith ls T)
-unfolding flatWith sub
-extent-with-sub ls σ (int w) = refl
-extent-with-sub ls σ (ptr T r) = refl
-extent-with-sub ls σ (arr n T) = extent-copies n (flatWith ls (sub σ T)) ∙ ap (times n) (extent-with-sub ls σ T) ∙ sym (extent-copies n (flatWith ls T))
-extent-with-sub ls σ (struct N rs) = extent-sub (arg (map σ rs)) (getD ls N none) ∙ sym (extent-sub (arg rs) (getD ls N none))
 
 -- ---- the layouts of the structs
 

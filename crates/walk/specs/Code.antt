@@ -1,6 +1,6 @@
--- Laws of the places of a function's instructions, for code that goes from one to the next: where the first stands, which is next, and how
--- far they can be. Assumes nothing.
-use mathlib.Core.Path.{_≡_, sym, ap, _∙_}
+-- Laws of the places of a function's instructions, for code that goes from one to the next: where they stand, and how far they can be.
+-- Assumes nothing.
+use mathlib.Core.Path.{_≡_}
 use Prim.Native.Nat.{ℕ, zero, suc, _+_, _*_, _<_, _≤_}
 use native.Mathlib.Omega.{arith}
 use lib.Dec.{ltb, eqb}
@@ -8,7 +8,7 @@ use Rattle.words.specs.Bytes.{Bytes}
 use Rattle.words.specs.Choose.{cond-split}
 use Rattle.rules.specs.File.{recordOf, regionsOf, instructionsOf, kindCall}
 use Rattle.rules.specs.Decode.{registersAt, codeAt, after, codePlaces, startOf, instructionAt}
-use Rattle.typing.specs.Walk.{skip, skip-suc, place-at}
+use Rattle.typing.specs.Walk.{skip, place-at}
 
 module _ (f : Bytes) where
   pub registers-far : (h : ℕ) → registersAt f h ≤ h + 2
@@ -26,11 +26,3 @@ module _ (f : Bytes) where
   pub instruction-skip : (g i : ℕ) → i < instructionsOf (recordOf f (startOf f g)) → instructionAt f g i ≡ skip f (codeAt f (startOf f g)) i
   unfolding instructionAt codePlaces
   instruction-skip g i h = place-at f (codeAt f (startOf f g)) (instructionsOf (recordOf f (startOf f g))) i h
-
-  pub instruction-first : (g : ℕ) → 0 < instructionsOf (recordOf f (startOf f g)) → instructionAt f g 0 ≡ codeAt f (startOf f g)
-  unfolding skip
-  instruction-first g h = instruction-skip g 0 h
-
-  pub instruction-next : (g i : ℕ) → suc i < instructionsOf (recordOf f (startOf f g)) → instructionAt f g (suc i) ≡ after f (instructionAt f g i)
-  instruction-next g i h =
-      instruction-skip g (suc i) h ∙ skip-suc f (codeAt f (startOf f g)) i ∙ ap (after f) (sym (instruction-skip g i (omega arith)))
