@@ -1,7 +1,7 @@
 -- Refusal 6 as the code tests it: document 01, "6 function: a register or return that is not primitive; a region type, register or
 -- return using regions beyond its scope; function 0 ..". Each test is the decision's answer. Assumes nothing.
 use mathlib.Core.Path.{_≡_, refl, sym, ap, ap₂, _∙_}
-use mathlib.Core.Bool.{Bool, true, false, not, _&&_, _||_}
+use mathlib.Core.Bool.{Bool, not, _&&_, _||_, and-assoc}
 use Prim.Native.Nat.{ℕ}
 use lib.Dec.{eqb}
 use Rattle.words.specs.First.{allBelow}
@@ -48,10 +48,6 @@ module _ (F : Function) where
   unfoldable pub entry : Bool
   entry = eqb (F .regionParams) 0 && (parametersFit && does (decTree (F .result) (int 4)))
 
-  and-swap : (a b c : Bool) → (a && b) && c ≡ a && (b && c)
-  and-swap true b c = refl
-  and-swap false b c = refl
-
   pub declared-is : declared ≡ does (decFunction F)
   unfolding declared regionsFit registersFit resultFits regionFits registerFits decFunction
   declared-is = sym (does-map _ _ _ ∙ does-both _ _
@@ -59,7 +55,7 @@ module _ (F : Function) where
       (does-both _ _
       ∙ ap₂ _&&_ (sym (does-all (λ a. decPrimitive (F .registerType a)) (F .registers)))
       (does-both _ _ ∙ ap₂ _&&_ (sym (does-all (λ a. decUses (scopeOf F (F .params) a) (F .registerType a)) (F .registers))) (does-both _ _))
-      ∙ sym (and-swap (allBelow (F .registers) (λ a. does (decPrimitive (F .registerType a)))) (allBelow (F .registers) (λ a. does (decUses (scopeOf F (F .params) a) (F .registerType a)))) (does (decPrimitive (F .result)) && does (decUses (F .regionParams) (F .result))))
+      ∙ sym (and-assoc (allBelow (F .registers) (λ a. does (decPrimitive (F .registerType a)))) (allBelow (F .registers) (λ a. does (decUses (scopeOf F (F .params) a) (F .registerType a)))) (does (decPrimitive (F .result)) && does (decUses (F .regionParams) (F .result))))
       ∙ ap (λ (b : Bool). b && (does (decPrimitive (F .result)) && does (decUses (F .regionParams) (F .result)))) (sym (all-and (F .registers) (λ a. does (decPrimitive (F .registerType a))) (λ a. does (decUses (scopeOf F (F .params) a) (F .registerType a)))))))
 
   pub entry-is : entry ≡ does (decEntry F)

@@ -1,17 +1,17 @@
 -- Kind 33 as the code tests it: document 01, "33 calls function b for regions d (a byte each), result into a; record 35 follows with
 -- argument registers .. Region, argument and result types equal the callee's with the regions put in". Assumes nothing.
-use mathlib.Core.Path.{_≡_, refl, sym, ap, _∙_, subst}
-use mathlib.Core.Bool.{Bool, true, false, _&&_}
+use mathlib.Core.Path.{_≡_, sym, ap, _∙_, subst}
+use mathlib.Core.Bool.{Bool, true, _&&_, and-assoc}
 use mathlib.Core.Logic.{_↔_, ⊎-elim}
-use mathlib.Core.List.{List, _∷_, map}
-use Prim.Native.Nat.{ℕ, zero, suc, _+_, _<_, _≤_}
+use mathlib.Core.List.{List, map}
+use Prim.Native.Nat.{ℕ, _+_, _<_, _≤_}
 use native.Mathlib.Omega.{arith}
 use lib.Dec.{ltb}
 use lib.ListN.{length, getD, set, take, length-take}
 use lib.Seq.{ext-getD, getD-take, getD-set-same, getD-set-other}
-use Rattle.words.specs.Bytes.{Bytes, listFrom, listOf}
-use Rattle.words.specs.ByteLaws.{length-listOf, getD-listOf}
-use Rattle.words.specs.Choose.{lt-reads, lt-or-le}
+use Rattle.words.specs.Bytes.{Bytes, listOf}
+use Rattle.words.specs.ByteLaws.{length-listOf, getD-listOf, map-listFrom}
+use Rattle.words.specs.Choose.{lt-reads, lt-or-le, and-reads}
 use Rattle.words.specs.First.{allBelow}
 use Rattle.words.specs.FirstLaws.{all-as}
 use Rattle.words.specs.Decide.{does}
@@ -26,7 +26,7 @@ use Rattle.terms.specs.Heads.{digit}
 use Rattle.terms.specs.HeadLaws.{digit-byte}
 use Rattle.terms.specs.Compare.{under}
 use Rattle.functions.specs.Functions.{functionAt, function-at, regionParams-at, params-at}
-use Rattle.judgment.specs.Registers.{both-reads, does-reads, decided, isRegister, register-reads}
+use Rattle.judgment.specs.Registers.{does-reads, decided, isRegister, register-reads}
 use Rattle.judgment.specs.Kinds.{callAt}
 
 -- ---- the regions of a call
@@ -55,11 +55,6 @@ given-more d j bytes v l e g = record {
       (lt-or-le i j);
 }
 
-map-list : {A B : Type 0} (σ : A → B) (g : ℕ → A) (a n : ℕ) → map σ (listFrom g a n) ≡ listFrom (λ j. σ (g j)) a n
-unfolding listFrom
-map-list σ g a zero = refl
-map-list {B = B} σ g a (suc n) = ap (λ (l : List B). σ (g a) ∷ l) (map-list σ g (suc a) n)
-
 -- lent in its first p bytes, it is the call's list of regions
 pub given-regions : (x : Record) (p : ℕ) (bytes : Bytes) → p ≤ mostGiven → Given (x .d) p bytes → map region (take p bytes) ≡ regionBytes x p
 unfolding regionBytes
@@ -68,7 +63,7 @@ given-regions x p bytes l g =
     (λ j h.
     let k : j < p = omega (arith, long) in
     getD-take p bytes j 0 k ∙ g .each j k ∙ digit-byte x j ∙ sym (getD-listOf (byteOfD x) p j 0 k)))
-    ∙ map-list region (byteOfD x) 0 p
+    ∙ map-listFrom region (byteOfD x) 0 p
   where
     long : length (take p bytes) ≡ p
     long = rw length-take (omega (arith, g .long))
@@ -116,13 +111,13 @@ module _ (f : Bytes) (h e : ℕ) (to : Bytes) (x y : Record) (is : map region to
   reads : ((ltb (x .b) (moduleOf f .functions) && callResult f h e to x) && (callRegions f h e to x && callArguments f h e to y) ≡ true) ↔ Facts
   unfolding callResult callRegions callRegion callArguments callArgument Facts Regions Arguments
   reads =
-      both-reads
-      (both-reads (lt-reads (x .b) (moduleOf f .functions)) (both-reads (register-reads (functionAt f h) (x .a)) (does-reads (decTree (functionAt f h .registerType (x .a)) (sub (under to) (functionAt f e .result))))))
-      (both-reads
+      and-reads
+      (and-reads (lt-reads (x .b) (moduleOf f .functions)) (and-reads (register-reads (functionAt f h) (x .a)) (does-reads (decTree (functionAt f h .registerType (x .a)) (sub (under to) (functionAt f e .result))))))
+      (and-reads
       (all-as (functionAt f e .regionParams) (callRegion f h e to x)
-      (λ i. both-reads (lt-reads (byteOfD x i) (regions (functionAt f h))) (does-reads (decTree (functionAt f h .regionType (byteOfD x i)) (sub (under to) (functionAt f e .regionType i))))))
+      (λ i. and-reads (lt-reads (byteOfD x i) (regions (functionAt f h))) (does-reads (decTree (functionAt f h .regionType (byteOfD x i)) (sub (under to) (functionAt f e .regionType i))))))
       (all-as (functionAt f e .params) (callArgument f h e to y)
-      (λ i. both-reads (register-reads (functionAt f h) (entryOf y i)) (does-reads (decTree (functionAt f h .registerType (entryOf y i)) (sub (under to) (functionAt f e .registerType i)))))))
+      (λ i. and-reads (register-reads (functionAt f h) (entryOf y i)) (does-reads (decTree (functionAt f h .registerType (entryOf y i)) (sub (under to) (functionAt f e .registerType i)))))))
 
   callee : functionAt f e ≡ moduleOf f .function (x .b)
   callee = ap (functionAt f) at ∙ sym (function-at f (x .b))
@@ -174,10 +169,6 @@ module _ (f : Bytes) (h e : ℕ) (to : Bytes) (x y : Record) (is : map region to
 
   call-decides : (ltb (x .b) (moduleOf f .functions) && callResult f h e to x) && (callRegions f h e to x && callArguments f h e to y) ≡ does (decTyped (moduleOf f) (functionAt f h) the)
   call-decides = decided (decTyped (moduleOf f) (functionAt f h) the) reads make back
-
-and-assoc : (a b c : Bool) → (a && b) && c ≡ a && (b && c)
-and-assoc true b c = refl
-and-assoc false b c = refl
 
 -- the test of the call at record r
 pub call-test : (f : Bytes) (h e : ℕ) (to : Bytes) (r : ℕ)

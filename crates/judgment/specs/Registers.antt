@@ -1,13 +1,13 @@
 -- What a typing rule asks of a function's registers, as tests that the code makes, and how each reads. Document 01, "Typing the
 -- instructions". Assumes nothing.
 use mathlib.Core.Path.{_≡_, refl, sym, ap, _∙_}
-use mathlib.Core.Bool.{Bool, true, false, _&&_, _||_}
-use mathlib.Core.Logic.{_⊎_, _↔_}
+use mathlib.Core.Bool.{Bool, true, false, _&&_}
+use mathlib.Core.Logic.{_↔_}
 use Prim.Native.Nat.{ℕ, _<_}
 use native.Mathlib.Omega.{arith}
 use lib.Dec.{ltb, eqb}
 use borrow.Author.Tests.{eqb-true}
-use Rattle.words.specs.Choose.{and-reads, or-reads, lt-reads, eq-reads}
+use Rattle.words.specs.Choose.{and-reads, lt-reads, eq-reads, does-same}
 use Rattle.words.specs.Decide.{does, does-true}
 use Rattle.rules.specs.Types.{variable, Variable, region, Tree, int, ptr, arr, struct, form, numberOf, inner, regionOf, decTree}
 use Rattle.rules.specs.Module.{Function}
@@ -15,16 +15,9 @@ use Rattle.rules.specs.Typing.{_⊢_∶_}
 use Rattle.typing.specs.Tests.{true-does}
 use Rattle.words.specs.Bytes.{Bytes}
 use Rattle.rules.specs.Decode.{moduleOf}
-use Rattle.functions.specs.Does.{does-same}
 use Rattle.functions.specs.Functions.{functionAt, registerTerm, regionTerm, register-at, region-at}
 
 -- ---- joints
-
-pub both-reads : {P Q : Type 0} {a b : Bool} → (a ≡ true) ↔ P → (b ≡ true) ↔ Q → (a && b ≡ true) ↔ (P × Q)
-both-reads {a = a} {b = b} p q = and-reads a b p q
-
-pub one-reads : {P Q : Type 0} {a b : Bool} → (a ≡ true) ↔ P → (b ≡ true) ↔ Q → (a || b ≡ true) ↔ (P ⊎ Q)
-one-reads {a = a} {b = b} p q = or-reads a b p q
 
 pub does-reads : {A : Type 0} (d : Dec A) → (does d ≡ true) ↔ A
 does-reads d = (does-true d, true-does d)
@@ -113,28 +106,28 @@ module _ (F : Function) where
 
   pub integer-reads : (a : ℕ) → (isInteger a ≡ true) ↔ ((w : ℕ) × (F ⊢ a ∶ int w))
   unfolding isInteger
-  integer-reads a = read-as (both-reads (register-reads a) (eq-reads (form (F .registerType a)) 1))
+  integer-reads a = read-as (and-reads (register-reads a) (eq-reads (form (F .registerType a)) 1))
       (λ h. (numberOf (F .registerType a), (h .0, int-of (F .registerType a) (h .1))))
       (λ h. (h .1 .0, ap form (h .1 .1)))
 
   pub pointer-reads : (a : ℕ) → (isPointer a ≡ true) ↔ (F ⊢ a ∶ ptr (inner (F .registerType a)) (regionOf (F .registerType a)))
   unfolding isPointer
-  pointer-reads a = read-as (both-reads (register-reads a) (eq-reads (form (F .registerType a)) 2))
+  pointer-reads a = read-as (and-reads (register-reads a) (eq-reads (form (F .registerType a)) 2))
       (λ h. (h .0, ptr-of (F .registerType a) (h .1)))
       (λ h. (h .0, ap form (h .1)))
 
   pub width-reads : (w a : ℕ) → (hasWidth w a ≡ true) ↔ (F ⊢ a ∶ int w)
   unfolding hasWidth
-  width-reads w a = both-reads (register-reads a) (does-reads (decTree (F .registerType a) (int w)))
+  width-reads w a = and-reads (register-reads a) (does-reads (decTree (F .registerType a) (int w)))
 
   pub same-reads : (a b : ℕ) → (sameTypes a b ≡ true) ↔ ((a < F .registers) × ((b < F .registers) × (F .registerType a ≡ F .registerType b)))
   unfolding sameTypes
-  same-reads a b = both-reads (register-reads a) (both-reads (register-reads b) (does-reads (decTree (F .registerType a) (F .registerType b))))
+  same-reads a b = and-reads (register-reads a) (and-reads (register-reads b) (does-reads (decTree (F .registerType a) (F .registerType b))))
 
   pub points-reads : (p v : ℕ) → (pointsTo p v ≡ true) ↔ ((r : Variable) × ((F ⊢ p ∶ ptr (F .registerType v) r) × (v < F .registers)))
   unfolding pointsTo
   points-reads p v = read-as
-      (both-reads (both-reads (register-reads p) (register-reads v)) (both-reads (eq-reads (form (F .registerType p)) 2) (does-reads (decTree (inner (F .registerType p)) (F .registerType v)))))
+      (and-reads (and-reads (register-reads p) (register-reads v)) (and-reads (eq-reads (form (F .registerType p)) 2) (does-reads (decTree (inner (F .registerType p)) (F .registerType v)))))
       (λ h. (regionOf (F .registerType p), ((h .0 .0, ptr-of (F .registerType p) (h .1 .0) ∙ ap (λ (T : Tree variable). ptr T (regionOf (F .registerType p))) (h .1 .1)), h .0 .1)))
       (λ h. ((h .1 .0 .0, h .1 .1), (ap form (h .1 .0 .1), ap inner (h .1 .0 .1))))
 
@@ -142,6 +135,6 @@ module _ (F : Function) where
       ↔ ((F ⊢ a ∶ ptr (inner (F .registerType a)) (regionOf (F .registerType b))) × (F ⊢ b ∶ ptr (inner (F .registerType b)) (regionOf (F .registerType b))))
   unfolding together
   together-reads a b = read-as
-      (both-reads (both-reads (pointer-reads a) (pointer-reads b)) (eq-reads (regionOf (F .registerType a) .number) (regionOf (F .registerType b) .number)))
+      (and-reads (and-reads (pointer-reads a) (pointer-reads b)) (eq-reads (regionOf (F .registerType a) .number) (regionOf (F .registerType b) .number)))
       (λ h. ((h .0 .0 .0, h .0 .0 .1 ∙ ap (ptr (inner (F .registerType a))) (same-region (regionOf (F .registerType a)) (regionOf (F .registerType b)) (h .1))), h .0 .1))
       (λ h. (((h .0 .0, h .0 .1 ∙ ap (ptr (inner (F .registerType a))) (sym (ap regionOf (h .0 .1)))), h .1), ap (λ (T : Tree variable). regionOf T .number) (h .0 .1)))

@@ -6,7 +6,7 @@ use Prim.Native.Nat.{ℕ, _^_, _<_, _≤_}
 use native.Mathlib.Omega.{arith}
 use lib.Dec.{ltb, leb, eqb}
 use borrow.Author.Tests.{lt-ltb, le-ltb, ne-eqb}
-use Rattle.words.specs.Choose.{lt-reads, le-reads, eq-reads}
+use Rattle.words.specs.Choose.{lt-reads, le-reads, eq-reads, and-reads, or-reads}
 use Rattle.words.specs.Decide.{does}
 use Rattle.rules.specs.Types.{variable, Variable, Tree, int, ptr, form, numberOf, inner, regionOf, decTree}
 use Rattle.rules.specs.Module.{Module, Function, regions, constant, copy, operate, zeroExtend, signExtend, address, check, field, index, load, store, new, free, input, output, jump, branch, return}
@@ -14,7 +14,7 @@ use Rattle.rules.specs.Flat.{Run, Same, decRun, decSame, flat}
 use Rattle.rules.specs.Operands.{signedQuotient, lastOperation}
 use Rattle.rules.specs.Typing.{_⊢_∶_, Typed, t-constant, t-copy, t-operate, t-quotient, t-compare, t-zeroExtend, t-signExtend, t-address, t-checkInteger, t-checkPointer, t-field, t-index, t-load, t-store, t-new, t-free, t-input, t-output, t-jump, t-branch, t-return}
 use Rattle.rules.specs.Decision.{decTyped}
-use Rattle.judgment.specs.Registers.{both-reads, one-reads, does-reads, decided, ptr-of, arr-of, isRegister, isInteger, isPointer, hasWidth, sameTypes, pointsTo, together, register-reads, integer-reads, pointer-reads, width-reads, same-reads, points-reads, together-reads}
+use Rattle.judgment.specs.Registers.{does-reads, decided, ptr-of, arr-of, isRegister, isInteger, isPointer, hasWidth, sameTypes, pointsTo, together, register-reads, integer-reads, pointer-reads, width-reads, same-reads, points-reads, together-reads}
 
 -- operation o on b gives the type of a
 unfoldable pub operated : Function → ℕ → ℕ → ℕ → Bool
@@ -42,7 +42,7 @@ module _ (F : Function) (o a b : ℕ) where
 module _ (m : Module) (F : Function) where
   -- "16 a becomes d, which fits integer a"
   pub constant-test : (a d : ℕ) → isInteger F a && ltb d (256 ^ numberOf (F .registerType a)) ≡ does (decTyped m F (constant a d))
-  constant-test a d = decided (decTyped m F (constant a d)) (both-reads (integer-reads F a) (lt-reads d (256 ^ numberOf (F .registerType a))))
+  constant-test a d = decided (decTyped m F (constant a d)) (and-reads (integer-reads F a) (lt-reads d (256 ^ numberOf (F .registerType a))))
       (λ h. t-constant {w = h .0 .0} (h .0 .1) (subst (λ (w : ℕ). d < 256 ^ w) (ap numberOf (h .0 .1 .1)) (h .1))) back
     where
       back : Typed m F (constant a d) → ((w : ℕ) × (F ⊢ a ∶ int w)) × (d < 256 ^ numberOf (F .registerType a))
@@ -60,10 +60,10 @@ module _ (m : Module) (F : Function) where
   pub operate-test : (o a b c : ℕ) → (isInteger F b && sameTypes F c b) && operated F o a b ≡ does (decTyped m F (operate o a b c))
   unfolding operated
   operate-test o a b c = decided (decTyped m F (operate o a b c))
-      (both-reads (both-reads (integer-reads F b) (same-reads F c b))
-      (one-reads (both-reads (lt-reads o signedQuotient) (same-reads F a b))
-      (one-reads (both-reads (eq-reads o signedQuotient) (both-reads (width-reads F 4 b) (width-reads F 4 a)))
-      (both-reads (lt-reads signedQuotient o) (both-reads (le-reads o lastOperation) (width-reads F 1 a))))))
+      (and-reads (and-reads (integer-reads F b) (same-reads F c b))
+      (or-reads (and-reads (lt-reads o signedQuotient) (same-reads F a b))
+      (or-reads (and-reads (eq-reads o signedQuotient) (and-reads (width-reads F 4 b) (width-reads F 4 a)))
+      (and-reads (lt-reads signedQuotient o) (and-reads (le-reads o lastOperation) (width-reads F 1 a))))))
       make back
     where
       Operands : Type 0
@@ -90,14 +90,14 @@ module _ (m : Module) (F : Function) where
 
   -- "19 integer b to integer a", "20 the same, sign-extended"
   pub zero-test : (a b : ℕ) → isInteger F a && isInteger F b ≡ does (decTyped m F (zeroExtend a b))
-  zero-test a b = decided (decTyped m F (zeroExtend a b)) (both-reads (integer-reads F a) (integer-reads F b))
+  zero-test a b = decided (decTyped m F (zeroExtend a b)) (and-reads (integer-reads F a) (integer-reads F b))
       (λ h. t-zeroExtend {v = h .1 .0} {w = h .0 .0} (h .1 .1) (h .0 .1)) back
     where
       back : Typed m F (zeroExtend a b) → ((w : ℕ) × (F ⊢ a ∶ int w)) × ((v : ℕ) × (F ⊢ b ∶ int v))
       back (t-zeroExtend {v = v} {w = w} p q) = ((w, q), (v, p))
 
   pub sign-test : (a b : ℕ) → isInteger F a && isInteger F b ≡ does (decTyped m F (signExtend a b))
-  sign-test a b = decided (decTyped m F (signExtend a b)) (both-reads (integer-reads F a) (integer-reads F b))
+  sign-test a b = decided (decTyped m F (signExtend a b)) (and-reads (integer-reads F a) (integer-reads F b))
       (λ h. t-signExtend {v = h .1 .0} {w = h .0 .0} (h .1 .1) (h .0 .1)) back
     where
       back : Typed m F (signExtend a b) → ((w : ℕ) × (F ⊢ a ∶ int w)) × ((v : ℕ) × (F ⊢ b ∶ int v))
@@ -109,14 +109,14 @@ module _ (m : Module) (F : Function) where
 
   -- "21 pointer b to i32 a"
   pub address-test : (a b : ℕ) → isPointer F b && hasWidth F 4 a ≡ does (decTyped m F (address a b))
-  address-test a b = decided (decTyped m F (address a b)) (both-reads (pointer-reads F b) (width-reads F 4 a)) (λ h. t-address (h .0) (h .1)) back
+  address-test a b = decided (decTyped m F (address a b)) (and-reads (pointer-reads F b) (width-reads F 4 a)) (λ h. t-address (h .0) (h .1)) back
     where
       back : Typed m F (address a b) → (F ⊢ b ∶ ptr (inner (F .registerType b)) (regionOf (F .registerType b))) × (F ⊢ a ∶ int 4)
       back (t-address p q) = (pointer p, q)
 
   -- "22 check: i32 or pointer b becomes pointer a"
   pub check-test : (a b : ℕ) → isPointer F a && (hasWidth F 4 b || isPointer F b) ≡ does (decTyped m F (check a b))
-  check-test a b = decided (decTyped m F (check a b)) (both-reads (pointer-reads F a) (one-reads (width-reads F 4 b) (pointer-reads F b))) make back
+  check-test a b = decided (decTyped m F (check a b)) (and-reads (pointer-reads F a) (or-reads (width-reads F 4 b) (pointer-reads F b))) make back
     where
       Facts : Type 0
       Facts = (F ⊢ a ∶ ptr (inner (F .registerType a)) (regionOf (F .registerType a))) × ((F ⊢ b ∶ int 4) ⊎ (F ⊢ b ∶ ptr (inner (F .registerType b)) (regionOf (F .registerType b))))
@@ -133,7 +133,7 @@ module _ (m : Module) (F : Function) where
   -- it has"
   pub field-test : (a b d : ℕ) → together F a b && does (decRun (flat m (inner (F .registerType b))) d (flat m (inner (F .registerType a)))) ≡ does (decTyped m F (field a b d))
   field-test a b d = decided (decTyped m F (field a b d))
-      (both-reads (together-reads F a b) (does-reads (decRun (flat m (inner (F .registerType b))) d (flat m (inner (F .registerType a))))))
+      (and-reads (together-reads F a b) (does-reads (decRun (flat m (inner (F .registerType b))) d (flat m (inner (F .registerType a))))))
       (λ h. t-field (h .0 .1) (h .0 .0) (h .1)) back
     where
       back : Typed m F (field a b d)
@@ -148,7 +148,7 @@ module _ (m : Module) (F : Function) where
   -- "24 index: b points to an array, c is i32, a points to its element term, same region"
   pub index-test : (a b c : ℕ) → together F a b && (hasWidth F 4 c && (eqb (form (inner (F .registerType b))) 3 && does (decTree (inner (F .registerType a)) (inner (inner (F .registerType b)))))) ≡ does (decTyped m F (index a b c))
   index-test a b c = decided (decTyped m F (index a b c))
-      (both-reads (together-reads F a b) (both-reads (width-reads F 4 c) (both-reads (eq-reads (form (inner (F .registerType b))) 3) (does-reads (decTree (inner (F .registerType a)) (inner (inner (F .registerType b))))))))
+      (and-reads (together-reads F a b) (and-reads (width-reads F 4 c) (and-reads (eq-reads (form (inner (F .registerType b))) 3) (does-reads (decTree (inner (F .registerType a)) (inner (inner (F .registerType b))))))))
       (λ h. t-index {n = numberOf (inner (F .registerType b))} {r = regionOf (F .registerType b)} {T = inner (inner (F .registerType b))}
       (h .0 .1 .0, h .0 .1 .1 ∙ ap (λ (T : Tree variable). ptr T (regionOf (F .registerType b))) (arr-of (inner (F .registerType b)) (h .1 .1 .0)))
       (h .1 .0) (h .0 .0 .0, h .0 .0 .1 ∙ ap (λ (T : Tree variable). ptr T (regionOf (F .registerType b))) (h .1 .1 .1))) back
@@ -194,7 +194,7 @@ module _ (m : Module) (F : Function) where
 
   whole-reads : (a : ℕ) → (wholeTest a ≡ true) ↔ Whole a
   unfolding wholeTest Whole
-  whole-reads a = both-reads (pointer-reads F a) (both-reads (lt-reads (regionOf (F .registerType a) .number) (regions F)) (does-reads (decSame (flat m (inner (F .registerType a))) (flat m (F .regionType (regionOf (F .registerType a) .number))))))
+  whole-reads a = and-reads (pointer-reads F a) (and-reads (lt-reads (regionOf (F .registerType a) .number) (regions F)) (does-reads (decSame (flat m (inner (F .registerType a))) (flat m (F .regionType (regionOf (F .registerType a) .number))))))
 
   pub new-test : (a : ℕ) → wholeTest a ≡ does (decTyped m F (new a))
   unfolding Whole
@@ -212,7 +212,7 @@ module _ (m : Module) (F : Function) where
 
   -- "29 byte c of the form into i8 a, c i32. 30 i8 b to the output"
   pub input-test : (a c : ℕ) → hasWidth F 4 c && hasWidth F 1 a ≡ does (decTyped m F (input a c))
-  input-test a c = decided (decTyped m F (input a c)) (both-reads (width-reads F 4 c) (width-reads F 1 a)) (λ h. t-input (h .0) (h .1)) back
+  input-test a c = decided (decTyped m F (input a c)) (and-reads (width-reads F 4 c) (width-reads F 1 a)) (λ h. t-input (h .0) (h .1)) back
     where
       back : Typed m F (input a c) → (F ⊢ c ∶ int 4) × (F ⊢ a ∶ int 1)
       back (t-input p q) = (p, q)
@@ -231,14 +231,14 @@ module _ (m : Module) (F : Function) where
       back (t-jump p) = p
 
   pub branch-test : (a d : ℕ) → isInteger F a && ltb d (F .codeLength) ≡ does (decTyped m F (branch a d))
-  branch-test a d = decided (decTyped m F (branch a d)) (both-reads (integer-reads F a) (lt-reads d (F .codeLength))) (λ h. t-branch {w = h .0 .0} (h .0 .1) (h .1)) back
+  branch-test a d = decided (decTyped m F (branch a d)) (and-reads (integer-reads F a) (lt-reads d (F .codeLength))) (λ h. t-branch {w = h .0 .0} (h .0 .1) (h .1)) back
     where
       back : Typed m F (branch a d) → ((w : ℕ) × (F ⊢ a ∶ int w)) × (d < F .codeLength)
       back (t-branch {w = w} p q) = ((w, p), q)
 
   -- "34 returns a, of the return term"
   pub return-test : (a : ℕ) → isRegister F a && does (decTree (F .registerType a) (F .result)) ≡ does (decTyped m F (return a))
-  return-test a = decided (decTyped m F (return a)) (both-reads (register-reads F a) (does-reads (decTree (F .registerType a) (F .result)))) t-return back
+  return-test a = decided (decTyped m F (return a)) (and-reads (register-reads F a) (does-reads (decTree (F .registerType a) (F .result)))) t-return back
     where
       back : Typed m F (return a) → F ⊢ a ∶ F .result
       back (t-return p) = p

@@ -3,10 +3,11 @@
 -- What a law asks of the module stands in `TypesOk` and `GoodTree`.
 use mathlib.Core.Path.{_≡_, refl, sym, ap, ap₂, _∙_, subst}
 use mathlib.Core.Logic.{_⊎_, inl, inr}
-use Prim.Native.Nat.{ℕ, zero, suc, _+_, _-_, _*_, _^_, _/_, _%_, _<_, _≤_}
+use Prim.Native.Nat.{ℕ, suc, _+_, _-_, _*_, _^_, _/_, _%_, _<_, _≤_}
 use native.Mathlib.Nat.{mod-lt, div-add-mod, mul-le-mul-left, suc-inj}
 use native.Mathlib.Decide.{decLt}
 use native.Mathlib.Omega.{arith}
+use Rattle.words.specs.ByteLaws.{pow-pos}
 use Rattle.rules.specs.Limits.{pages, pageBytes}
 use Rattle.rules.specs.Types.{live, region, Tree, int, ptr, arr, struct, width, sub, Primitive}
 use Rattle.rules.specs.Module.{Module}
@@ -89,10 +90,6 @@ value-keep m W X (ptr T r) v k (inl z) = inl z
 value-keep m W X (ptr T r) v k (inr h) = inr (stands-keep m W X T (r .number) v k h)
 value-keep m W X (arr n T) v k h = h
 value-keep m W X (struct N rs) v k h = h
-
-pub pow-pos : (n : ℕ) → 0 < 256 ^ n
-pow-pos zero = omega arith
-pow-pos (suc n) = omega (arith, pow-pos n)
 
 -- zero is a value of every type
 pub value-zero : (m : Module) (W : HeapTyping) (T : Tree live) → Primitive T → Value m W T 0

@@ -10,12 +10,12 @@ use native.Mathlib.Omega.{arith}
 use lib.Dec.{eqb, ltb, leb}
 use lib.ListN.{length, getD, List·getD-map}
 use lib.Seq.{take-all}
-use borrow.Author.Tests.{eq-eqb, ne-eqb, eqb-true, lt-ltb, le-ltb, ltb-true, le-leb, lt-leb, leb-true}
+use borrow.Author.Tests.{eq-eqb, ne-eqb, eqb-true, lt-ltb, le-ltb, le-leb, lt-leb}
 use Rattle.words.specs.Bytes.{Bytes}
-use Rattle.words.specs.Choose.{false-by, true-not-false, lt-or-le, bool-same, and-no}
+use Rattle.words.specs.Choose.{false-by, true-not-false, lt-or-le, bool-same, and-no, does-lt, does-le}
 use Rattle.words.specs.First.{first}
 use Rattle.words.specs.FirstLaws.{first-is}
-use Rattle.words.specs.Decide.{does, does-true, decBoth}
+use Rattle.words.specs.Decide.{does, does-true, decBoth, true-does}
 use Rattle.rules.specs.Types.{RegionKind, variable, live, Region, Variable, region, Tree, int, ptr, arr, struct, sub, arg, nowhere, decTree, form, numberOf, inner}
 use Rattle.rules.specs.Module.{Module}
 use Rattle.rules.specs.Flat.{Placed, at, off, Layout, count, none, moved, copies, placedIn, subLayout, flatWith, layouts, flat, distance, decPlaced, Run, decRun, positionAt, Same, decSame, size}
@@ -25,10 +25,10 @@ use Rattle.layout.specs.Prims.{nth, moved-zero, count-sub, subLayout-size, subL
 use Rattle.rules.specs.Limits.{pages, pageBytes}
 use Rattle.rules.specs.Heap.{HeapTyping, decStands}
 use Rattle.layout.specs.Flat.{distance-zero, size-sub}
-use Rattle.layout.specs.Runs.{run-matches, matches-run, Rising, flat-rising, nth-sub, distance-sub, position-sub}
+use Rattle.layout.specs.Runs.{run-matches, matches-run, Rising, flat-rising, nth-sub, distance-sub, position-sub, position-is}
 use Rattle.terms.specs.Heads.{placeOf, treeAt}
 use Rattle.terms.specs.Extents.{Counted}
-use Rattle.terms.specs.Compare.{under, under-is, sub-same, does-yes, does-map, does-both, does-nat, placesSame}
+use Rattle.terms.specs.Compare.{under, under-is, sub-same, does-map, does-both, does-nat, placesSame}
 use Rattle.runs.specs.Table.{termLayout, Table}
 use Rattle.runs.specs.TableLaws.{layout-term}
 use Rattle.runs.specs.Positions.{Keeps, Agree, under-agree, placedOf, Found}
@@ -55,11 +55,11 @@ module _ {k : RegionKind} (L : Layout k) (q : ℕ) (M : Layout k) where
 
   pub run-broken : (i : ℕ) → i < count M → sameAt i ≡ false → false ≡ does (decRun L q M)
   run-broken i l h =
-      sym (false-by (λ e. true-not-false (does-yes (decPlaced (nth L (q + i)) (moved (distance L q) (nth M i))) (run-matches L q M (does-true (decRun L q M) e) .each i l)) h))
+      sym (false-by (λ e. true-not-false (true-does (decPlaced (nth L (q + i)) (moved (distance L q) (nth M i))) (run-matches L q M (does-true (decRun L q M) e) .each i l)) h))
 
   pub run-all : 0 < count M → q + count M ≤ count L → ((i : ℕ) → i < count M → sameAt i ≡ true) → true ≡ does (decRun L q M)
   run-all s r h =
-      sym (does-yes (decRun L q M) (matches-run L q M (record { some = s; room = r; each = λ i l. does-true (decPlaced (nth L (q + i)) (moved (distance L q) (nth M i))) (h i l) })))
+      sym (true-does (decRun L q M) (matches-run L q M (record { some = s; room = r; each = λ i l. does-true (decPlaced (nth L (q + i)) (moved (distance L q) (nth M i))) (h i l) })))
 
 -- ---- one primitive
 
@@ -119,12 +119,6 @@ layout-under k f n s h t p held keeps agree =
     ∙ ap (λ (T : Tree k). flatWith (layouts (moduleOf f) (moduleOf f .structs)) T) (sub-same (under {k = k} held) (under p) (under-agree held p agree) (moduleOf f .term t))
 
 -- ---- positions
-
--- the first primitive at distance o
-pub position-found : {k : RegionKind} (L : Layout k) (o i : ℕ) → i < count L → ((j : ℕ) → j < i → distance L j ≡ o → ⊥) → distance L i ≡ o → i ≡ positionAt L o
-unfolding positionAt
-position-found L o i l before h =
-    sym (first-is (count L) (λ q. not (eqb (distance L q) o)) i (omega arith) (λ j m. ap not (ne-eqb (distance L j) o (before j m))) (λ _. ap not (eq-eqb (distance L i) o h)))
 
 pub position-none : {k : RegionKind} (L : Layout k) (o i : ℕ) → i ≡ count L → ((j : ℕ) → j < i → distance L j ≡ o → ⊥) → i ≡ positionAt L o
 unfolding positionAt
@@ -220,7 +214,7 @@ module _ (L : Layout variable) (up : Rising L) (o low high mid : ℕ) (so : Lowe
 
 module _ (L : Layout variable) (o i : ℕ) (so : Lower L o i i) where
   pub lower-found : i < count L → distance L i ≡ o → i ≡ positionAt L o
-  lower-found l h = position-found L o i l (λ j m e. let s = so .nearer j m in omega arith) h
+  lower-found l h = sym (position-is L o i l (λ j m e. let s = so .nearer j m in omega arith) h)
 
   pub lower-other : Rising L → i < count L → (distance L i ≡ o → ⊥) → (many : ℕ) → many ≡ count L → many ≡ positionAt L o
   lower-other up l h many e = position-none L o many e
@@ -269,8 +263,8 @@ module _ {k : RegionKind} (L M : Layout k) where
   -- as many primitives, and the run from the first one, which is at distance 0
   pub same-run-from : count L ≡ count M → (0 < count L → distance L 0 ≡ 0) → does (decRun L 0 M) ≡ does (decSame L M)
   same-run-from e z = bool-same (does (decRun L 0 M)) (does (decSame L M))
-      (λ h. let r = does-true (decRun L 0 M) h in does-yes (decSame L M) (record { some = let s = r .some in omega arith; equal = to r }))
-      (λ h. let s = does-true (decSame L M) h in does-yes (decRun L 0 M) (from s))
+      (λ h. let r = does-true (decRun L 0 M) h in true-does (decSame L M) (record { some = let s = r .some in omega arith; equal = to r }))
+      (λ h. let s = does-true (decSame L M) h in true-does (decRun L 0 M) (from s))
     where
       nothing : (l : List (Placed k)) (x : ℕ) → x ≡ 0 → map (moved x) l ≡ l
       nothing [] x q = refl
@@ -369,12 +363,6 @@ module _ {k : RegionKind} (L : Layout k) (x : ℕ) (M : Layout k) (sz : ℕ) (is
 pub size-under : (k : RegionKind) (f p : Bytes) (t : ℕ) → size (moduleOf f) (moduleOf f .term t) ≡ size (moduleOf f) (sub (under {k = k} p) (moduleOf f .term t))
 size-under k f p t = sym (size-sub (under {k = k} p) (moduleOf f) (moduleOf f .term t))
 
-does-le : (m n : ℕ) → does (decLe m n) ≡ leb m n
-does-le m n = bool-same (does (decLe m n)) (leb m n) (λ e. le-leb m n (does-true (decLe m n) e)) (λ e. does-yes (decLe m n) (leb-true m n e))
-
-does-lt : (m n : ℕ) → does (decLt m n) ≡ ltb m n
-does-lt m n = bool-same (does (decLt m n)) (ltb m n) (λ e. lt-ltb m n (does-true (decLt m n) e)) (λ e. does-yes (decLt m n) (ltb-true m n e))
-
 stands-test : (m : Module) (W : HeapTyping) (T U : Tree live) (r a : ℕ) → W .type r ≡ U
     → does (decStands m W T r a) ≡ (ltb (a / pageBytes) pages && eqb (W .owner (a / pageBytes)) (suc r)) && inPage (flat m U) (a % pageBytes) (flat m T)
 unfolding decStands inPage
@@ -383,11 +371,11 @@ stands-test m W T U r a e =
     does-map _ _ (decBoth (decBoth (decLt (a / pageBytes) pages) (ℕ-discrete (W .owner (a / pageBytes)) (suc r))) (decBoth (decLt 0 (L .size)) (decBoth (decLe (L .size * suc (a % pageBytes / L .size)) pageBytes) (decRun L (positionAt L (a % pageBytes % L .size)) (flat m T)))))
     ∙ does-both (decBoth (decLt (a / pageBytes) pages) (ℕ-discrete (W .owner (a / pageBytes)) (suc r))) (decBoth (decLt 0 (L .size)) (decBoth (decLe (L .size * suc (a % pageBytes / L .size)) pageBytes) (decRun L (positionAt L (a % pageBytes % L .size)) (flat m T))))
     ∙ ap₂ (λ (x y : Bool). x && y)
-    (does-both (decLt (a / pageBytes) pages) (ℕ-discrete (W .owner (a / pageBytes)) (suc r)) ∙ ap₂ (λ (x y : Bool). x && y) (does-lt (a / pageBytes) pages) (does-nat (W .owner (a / pageBytes)) (suc r)))
+    (does-both (decLt (a / pageBytes) pages) (ℕ-discrete (W .owner (a / pageBytes)) (suc r)) ∙ ap₂ (λ (x y : Bool). x && y) (sym (does-lt (a / pageBytes) pages)) (does-nat (W .owner (a / pageBytes)) (suc r)))
     (does-both (decLt 0 (L .size)) (decBoth (decLe (L .size * suc (a % pageBytes / L .size)) pageBytes) (decRun L (positionAt L (a % pageBytes % L .size)) (flat m T)))
-    ∙ ap₂ (λ (x y : Bool). x && y) (does-lt 0 (L .size))
+    ∙ ap₂ (λ (x y : Bool). x && y) (sym (does-lt 0 (L .size)))
     (does-both (decLe (L .size * suc (a % pageBytes / L .size)) pageBytes) (decRun L (positionAt L (a % pageBytes % L .size)) (flat m T))
-    ∙ ap (λ (x : Bool). x && does (decRun L (positionAt L (a % pageBytes % L .size)) (flat m T))) (does-le (L .size * suc (a % pageBytes / L .size)) pageBytes)))
+    ∙ ap (λ (x : Bool). x && does (decRun L (positionAt L (a % pageBytes % L .size)) (flat m T))) (sym (does-le (L .size * suc (a % pageBytes / L .size)) pageBytes))))
     ∙ ap (λ (X : Tree live). (ltb (a / pageBytes) pages && eqb (W .owner (a / pageBytes)) (suc r)) && inPage (flat m X) (a % pageBytes) (flat m T)) e
 
 module _ (f : Bytes) (r owner u : ℕ) (p : Bytes) (a t : ℕ) (q : Bytes) where

@@ -2,12 +2,12 @@
 use mathlib.Core.Path.{_≡_, sym, ap, _∙_}
 use mathlib.Core.Bool.{Bool, true, _&&_}
 use mathlib.Core.Logic.{_⊎_, ⊎-elim}
-use Prim.Native.Nat.{ℕ, zero, suc, _+_, _-_, _<_, _≤_}
+use Prim.Native.Nat.{ℕ, _+_, _-_, _<_, _≤_}
 use native.Mathlib.Omega.{arith}
 use lib.Dec.{eqb}
 use lib.ListN.{length}
 use Rattle.words.specs.Bytes.{Bytes, byteAt, number}
-use Rattle.words.specs.ByteLaws.{byte-past}
+use Rattle.words.specs.ByteLaws.{byte-past, zero-byte}
 use Rattle.words.specs.Choose.{lt-or-le}
 use Rattle.stack.specs.Tells.{Tells, tells-map, tells-and, tells-yes, tells-eq}
 
@@ -45,17 +45,8 @@ pub zero-past : {s : Bytes} {from to n : ℕ} {b : Bool} → n ≡ length s → 
 zero-past {s} {from} {to} {n} e h t =
     tells-map (λ w j l. ⊎-elim (w j) (λ a. record { is = λ k. byte-past s j (omega arith) }) (lt-or-le j n)) (λ w j l. w j (omega arith)) t
 
--- a number is zero only if its bytes are
-pub number-none : (n : ℕ) (s : Bytes) (i : ℕ) → number n s i ≡ 0 → (j : ℕ) → j < n → byteAt s (i + j) ≡ 0
-unfolding number
-number-none zero s i e j h = absurd (omega arith)
-number-none (suc n) s i e zero h = let q : i + 0 ≡ i = omega arith in rw q (omega arith)
-number-none (suc n) s i e (suc j) h =
-    let q : i + suc j ≡ suc i + j = omega arith in
-    rw q (number-none n s (suc i) (omega arith) j (omega arith))
-
 -- byte i of a number that is zero and starts at a
 pub byte-none : (n : ℕ) (s : Bytes) (a i : ℕ) → number n s a ≡ 0 → a ≤ i → i < a + n → byteAt s i ≡ 0
 byte-none n s a i e l h =
     let q : a + (i - a) ≡ i = omega arith in
-    ap (byteAt s) (sym q) ∙ number-none n s a e (i - a) (omega arith)
+    ap (byteAt s) (sym q) ∙ zero-byte n s a e (i - a) (omega arith)

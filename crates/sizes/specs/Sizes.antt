@@ -12,6 +12,7 @@ use Rattle.words.specs.ByteLaws.{length-listOf}
 use Rattle.words.specs.First.{allBelow}
 use Rattle.words.specs.FirstLaws.{all-holds, all-from}
 use Rattle.words.specs.Decide.{does, does-true, Each, none, more, decEach}
+use Rattle.words.specs.Choose.{does-same, does-le}
 use Rattle.rules.specs.Limits.{sizeLimit}
 use Rattle.rules.specs.File.{recordOf, entryOf}
 use Rattle.rules.specs.Types.{variable, region, Tree, decUses}
@@ -27,7 +28,6 @@ use Rattle.terms.specs.HeadLaws.{Fair}
 use Rattle.terms.specs.Readers.{Reads}
 use Rattle.terms.specs.Extents.{Terms}
 use Rattle.terms.specs.Compare.{does-map, does-both, does-nat}
-use Rattle.functions.specs.Does.{does-same, does-le}
 
 -- the regions of struct N, of a file with n terms
 unfoldable pub arityOf : Bytes → ℕ → ℕ → ℕ

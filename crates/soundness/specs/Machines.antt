@@ -9,10 +9,10 @@ use Prim.Native.Nat.{ℕ, _-_, _<_, _≤_}
 use native.Mathlib.Omega.{arith}
 use lib.Dec.{eqb}
 use lib.ListN.{replicate, length-replicate}
-use borrow.Author.Tests.{eq-eqb}
+use borrow.Author.Tests.{eq-eqb, not-true}
 use Rattle.words.specs.Bytes.{Bytes}
 use Rattle.words.specs.FirstLaws.{firstFrom-least}
-use Rattle.words.specs.Choose.{cond-eq, split-lt, true-not-false, not-true}
+use Rattle.words.specs.Choose.{cond-eq, split-lt, true-not-false}
 use Rattle.rules.specs.Limits.{outputBytes, stateBytes}
 use Rattle.rules.specs.Decode.{moduleOf}
 use Rattle.rules.specs.State.{view}

@@ -10,10 +10,10 @@ use native.Mathlib.Decide.{ℕ-discrete, decLt}
 use native.Mathlib.Omega.{arith}
 use lib.Dec.{eqb, ltb}
 use lib.ListN.{length, getD, List·getD-eq-default}
-use borrow.Author.Tests.{ltb-true, eqb-true}
+use borrow.Author.Tests.{ltb-true, eqb-true, not-false}
 use Rattle.words.specs.Bytes.{Bytes, AllBytes, byteAt}
 use Rattle.words.specs.FirstLaws.{firstFrom-least}
-use Rattle.words.specs.Choose.{cond-lt, cond-nlt, cond-split, split-lt, split-eq, both, not-false}
+use Rattle.words.specs.Choose.{cond-lt, cond-nlt, cond-split, split-lt, split-eq, both}
 use Rattle.rules.specs.Limits.{pages, pageBytes, firstPage, pastPage, mostFrames, outputBytes}
 use Rattle.words.specs.Decide.{does, does-true, decAll}
 use Rattle.rules.specs.Types.{variable, live, Variable, region, Tree, int, ptr, arr, sub, width, arg, Uses, in-ptr, Primitive}

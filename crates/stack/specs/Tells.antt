@@ -6,7 +6,7 @@ use mathlib.Core.Logic.{_⊎_, inl, inr, ⊎-elim}
 use Prim.Native.Nat.{ℕ, _+_, _≤_, _<_}
 use native.Mathlib.Omega.{arith}
 use lib.Dec.{eqb, ltb, leb}
-use borrow.Author.Tests.{ltb-true, lt-ltb, leb-true, le-leb, eqb-true, eq-eqb}
+use borrow.Author.Tests.{ltb-true, lt-ltb, leb-true, le-leb, eqb-true, eq-eqb, not-true, not-false}
 use Rattle.words.specs.Choose.{true-not-false, false-by, lt-or-le, both, both-of, either, left-of, right-of}
 use Rattle.words.specs.Decide.{does, does-true}
 use Rattle.typing.specs.Tests.{true-does}
@@ -48,19 +48,11 @@ tells-or {a} {b} s t =
       shows = ⊎-elim (λ x. left-of a b (s .shows x)) (λ x. right-of a b (t .shows x));
     }
 
-yes-of : (b : Bool) → not b ≡ false → b ≡ true
-yes-of true e = refl
-yes-of false e = sym e
-
-no-of : (b : Bool) → not b ≡ true → b ≡ false
-no-of true e = sym e
-no-of false e = refl
-
 pub told-yes : {b : Bool} {P : Type 0} → Tells b P → not b ≡ false → P
-told-yes {b} t e = t .holds (yes-of b e)
+told-yes {b} t e = t .holds (not-false b e)
 
 pub told-no : {b : Bool} {P : Type 0} → Tells b P → not b ≡ true → ¬ P
-told-no {b} t e p = true-not-false (t .shows p) (no-of b e)
+told-no {b} t e p = true-not-false (t .shows p) (not-true b e)
 
 pub tells-not : {b : Bool} {P : Type 0} → Tells b P → Tells (not b) (¬ P)
 tells-not {b} t =

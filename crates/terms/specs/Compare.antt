@@ -2,7 +2,7 @@
 -- A substitution is a list of bytes, that of variable 0 first. Assumes nothing.
 use mathlib.Core.Path.{_≡_, refl, sym, ap, ap₂, _∙_}
 use mathlib.Core.Logic.{⊎-elim}
-use mathlib.Core.Bool.{Bool, true, false, _&&_, _||_, not}
+use mathlib.Core.Bool.{Bool, true, false, _&&_, _||_, not, and-true, and-comm}
 use mathlib.Core.List.{List, [], _∷_, map}
 use Prim.Native.Nat.{ℕ, zero, suc, _+_, _<_, _≤_}
 use native.Mathlib.Decide.{ℕ-discrete}
@@ -11,12 +11,13 @@ use lib.Dec.{eqb, ltb}
 use lib.ListN.{length, getD, set, List·getD-map}
 use lib.Seq.{getD-set-same, getD-set-other}
 use borrow.Author.Tests.{eq-eqb, ne-eqb, eqb-true, ltb-true, ltb-false}
-use Rattle.words.specs.Bytes.{Bytes, AllBytes, listFrom, listOf}
-use Rattle.words.specs.ByteLaws.{length-listOf, getD-listOf, listOf-agree}
+use Rattle.words.specs.Bytes.{Bytes, AllBytes, listOf}
+use Rattle.words.specs.ByteLaws.{length-listOf, getD-listOf, listOf-agree, map-listFrom}
 use Rattle.words.specs.Choose.{bool-same, both, both-of, either, neither, lt-or-le}
 use Rattle.words.specs.First.{allBelow}
 use Rattle.words.specs.FirstLaws.{all-holds, all-from}
-use Rattle.words.specs.Decide.{does, does-true, decBoth, mapDec, decList}
+use Rattle.words.specs.Decide.{does, does-true, decBoth, mapDec, decList, true-does}
+pub use Rattle.words.specs.Decide.{true-does as does-yes}
 use Rattle.rules.specs.Types.{RegionKind, variable, Region, Variable, region, decRegion, Tree, int, ptr, arr, struct, sub, arg, nowhere, decTree}
 use Rattle.rules.specs.Decode.{moduleOf}
 use Rattle.terms.specs.declared.Head.{Head}
@@ -79,10 +80,6 @@ does-is : {A : Type 0} (d : Dec A) (b : Bool) → (A → b ≡ true) → (¬ A �
 does-is (yes a) b f g = sym (f a)
 does-is (no n) b f g = sym (g n)
 
-pub does-yes : {A : Type 0} (d : Dec A) → A → does d ≡ true
-does-yes (yes a) x = refl
-does-yes (no n) x = absurd (n x)
-
 pub does-map : {A B : Type 0} (f : A → B) (g : B → A) (d : Dec A) → does (mapDec f g d) ≡ does d
 unfolding mapDec
 does-map f g (yes a) = refl
@@ -102,22 +99,7 @@ pub does-region : {k : RegionKind} (r s : Region k) → does (decRegion r s) ≡
 unfolding decRegion
 does-region r s = does-map _ _ (ℕ-discrete (r .number) (s .number)) ∙ does-nat (r .number) (s .number)
 
-and-true : (b : Bool) → b && true ≡ b
-and-true true = refl
-and-true false = refl
-
-and-comm : (a b : Bool) → a && b ≡ b && a
-and-comm true true = refl
-and-comm true false = refl
-and-comm false true = refl
-and-comm false false = refl
-
 -- ---- arguments
-
-map-list : {A B : Type 0} (σ : A → B) (g : ℕ → A) (a n : ℕ) → map σ (listFrom g a n) ≡ listFrom (λ j. σ (g j)) a n
-unfolding listFrom
-map-list σ g a zero = refl
-map-list {B = B} σ g a (suc n) = ap (λ (l : List B). σ (g a) ∷ l) (map-list σ g (suc a) n)
 
 module _ {k : RegionKind} (g h : ℕ → Region k) (n m : ℕ) where
   same-length : listOf g n ≡ listOf h m → n ≡ m
@@ -142,7 +124,7 @@ module _ {k : RegionKind} (g h : ℕ → Region k) (n m : ℕ) where
       from : eqb n m && allBelow n t ≡ true → does (decList decRegion (listOf g n) (listOf h m)) ≡ true
       from w =
           let b = both (eqb n m) (allBelow n t) w in
-          does-yes (decList decRegion (listOf g n) (listOf h m))
+          true-does (decList decRegion (listOf g n) (listOf h m))
           (listOf-agree g h n (λ j l. ap region (eqb-true (g j .number) (h j .number) (all-holds n t (b .1) j l))) ∙ ap (λ (c : ℕ). listOf h c) (eqb-true n m (b .0)))
 
 args-same : (k : RegionKind) (p q : Bytes) (d n e m : ℕ)
@@ -154,7 +136,7 @@ args-same k p q d n e m =
   where
     arguments : (p : Bytes) (d n : ℕ) → map (under {k = k} p) (listOf (λ j. region (digit d j)) n) ≡ listOf (λ j. region (byteUnder p (digit d j))) n
     arguments p d n =
-        map-list (under p) (λ j. region (digit d j)) 0 n
+        map-listFrom (under p) (λ j. region (digit d j)) 0 n
         ∙ listOf-agree (λ j. under p (region (digit d j))) (λ j. region (byteUnder p (digit d j))) n (λ j l. under-is p (region (digit d j)))
 
 -- ---- one step along two terms
@@ -166,7 +148,7 @@ regions-same k p q r s =
 
 pub places-none : (k : RegionKind) (f p q : Bytes) → placesSame k f 0 p 0 q ≡ true
 unfolding placesSame treeAt sub
-places-none k f p q = does-yes (decTree (int 1) (int 1)) refl
+places-none k f p q = true-does (decTree (int 1) (int 1)) refl
 
 module _ (k : RegionKind) (f p q : Bytes) where
   abbrev grown : Head → Head → Bool
@@ -282,7 +264,7 @@ module _ (f : Bytes) (g : AllBytes f) (p : Bytes) (id : Identity p) where
   same-args : (d n : ℕ) → d < 4294967296 → map (under p) (argsOf d n) ≡ argsOf d n
   unfolding argsOf
   same-args d n h =
-      map-list (under p) (λ j. region (digit d j)) 0 n
+      map-listFrom (under p) (λ j. region (digit d j)) 0 n
       ∙ listOf-agree (λ j. under p (region (digit d j))) (λ j. region (digit d j)) n (λ j l. under-is p (region (digit d j)) ∙ ap region (id (digit d j) (digit-lt d j h)))
 
   same-head : (i : ℕ) (h : Head) → Fair i h → ((a : ℕ) → a < i → sub (under p) (treeAt f a) ≡ treeAt f a) → sub (under p) (grow (treeAt f) h) ≡ grow (treeAt f) h

@@ -10,7 +10,7 @@ use borrow.Author.Tests.{le-leb, leb-true}
 use Rattle.words.specs.Bytes.{Bytes, AllBytes}
 use Rattle.words.specs.ByteLaws.{length-listOf}
 use Rattle.words.specs.Choose.{bool-same}
-use Rattle.words.specs.Decide.{does, does-true}
+use Rattle.words.specs.Decide.{does, does-true, true-does}
 use Rattle.rules.specs.Types.{variable, region, Tree, int, ptr, arr, struct, form, numberOf, inner, regionOf, args, decTree, decUses, decPrimitive}
 use Rattle.rules.specs.File.{recordOf, kindInteger, kindPointer, kindArray}
 use Rattle.rules.specs.Decode.{moduleOf}
@@ -21,7 +21,7 @@ use Rattle.terms.specs.Heads.{digit, argsOf, placeOf, treeAt, headFrom, 
 use Rattle.terms.specs.HeadLaws.{tree-step, place-in, place-out, place-le, Fair, fair}
 use Rattle.terms.specs.Extents.{Terms}
 use Rattle.terms.specs.ExtentLaws.{module-term}
-use Rattle.terms.specs.Compare.{does-map, does-nat, does-yes, inner-le}
+use Rattle.terms.specs.Compare.{does-map, does-nat, inner-le}
 use Rattle.terms.specs.Bounds.{bound, bound-reads}
 
 -- the head h is that of tree T, and the place inside is one of the file's n terms, or none
@@ -151,7 +151,7 @@ primitive-reads (struct N rs) = refl
 
 pub uses-reads : (n : ℕ) (T : Tree variable) → leb (bound T) n ≡ does (decUses n T)
 uses-reads n T = bool-same (leb (bound T) n) (does (decUses n T))
-    (λ h. does-yes (decUses n T) (bound-reads n T .0 (leb-true (bound T) n h)))
+    (λ h. true-does (decUses n T) (bound-reads n T .0 (leb-true (bound T) n h)))
     (λ h. le-leb (bound T) n (bound-reads n T .1 (does-true (decUses n T) h)))
 
 -- ---- a term's form by the kind of its record

@@ -1,11 +1,10 @@
--- Elements of lists: of one with another behind it, of one made by counting up. Assumes nothing.
-use mathlib.Core.Path.{_≡_, refl, ap}
+-- Elements of lists: of one with another behind it, and past the end. Assumes nothing.
+use mathlib.Core.Path.{_≡_, refl}
 use mathlib.Core.List.{List, [], _∷_, _++_}
 use Prim.Native.Nat.{ℕ, zero, suc, _<_, _≤_}
 use native.Mathlib.Nat.{not-suc-le-zero}
 use native.Mathlib.Omega.{arith}
 use lib.ListN.{length, getD}
-use Rattle.words.specs.Bytes.{listFrom}
 
 module _ {A : Type 0} (d : A) where
   pub getD-left : (l k : List A) (i : ℕ) → i < length l → getD (l ++ k) i d ≡ getD l i d
@@ -22,8 +21,3 @@ module _ {A : Type 0} (d : A) where
   getD-past [] i h = refl
   getD-past (z ∷ l) zero h = absurd (omega arith)
   getD-past (z ∷ l) (suc i) h = getD-past l i (omega arith)
-
-pub length-listFrom : {A : Type 0} (g : ℕ → A) (a n : ℕ) → length (listFrom g a n) ≡ n
-unfolding listFrom
-length-listFrom g a zero = refl
-length-listFrom g a (suc n) = ap suc (length-listFrom g (suc a) n)

@@ -13,6 +13,7 @@ use borrow.Author.Tests.{eqb-true, leb-true}
 use Rattle.words.specs.Bytes.{Bytes, listFrom}
 use Rattle.rules.specs.Limits.{sizeLimit}
 use Rattle.words.specs.Decide.{Each, none, more}
+use Rattle.words.specs.ByteLaws.{length-listFrom}
 use Rattle.rules.specs.File.{recordOf, entryOf, kindInteger, kindPointer, kindArray}
 use Rattle.rules.specs.Types.{variable, Variable, region, Tree, int, ptr, arr, struct, Primitive, width}
 use Rattle.rules.specs.Module.{Module, Function}
@@ -23,7 +24,7 @@ use Rattle.rules.specs.WellTyped.{TermOk}
 use Rattle.rules.specs.Verdict.{verdictOf, IsAccepted}
 use Rattle.rules.specs.declared.Record.{Record}
 use Rattle.typing.specs.Tests.{left, right}
-use Rattle.typing.specs.Lists.{getD-left, getD-last, getD-past, length-listFrom}
+use Rattle.typing.specs.Lists.{getD-left, getD-last, getD-past}
 use Rattle.typing.specs.Walk.{Fits, TermRecord, good}
 use Rattle.typing.specs.Accepted.{framed, records-fit, accepted}
 

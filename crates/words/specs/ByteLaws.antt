@@ -2,7 +2,7 @@
 -- Then numbers: what is read after a write (`number-splice` is THE apartness law), puts and fills as instances of `splice`, the widths of the
 -- code written out. Last the list of a function's values. All over every width and place at once. Assumes nothing.
 use mathlib.Core.Path.{_≡_, refl, sym, ap, ap₂, _∙_}
-use mathlib.Core.List.{List, [], _∷_, _++_}
+use mathlib.Core.List.{List, [], _∷_, _++_, map}
 use mathlib.Core.Logic.{_⊎_, inl, inr, ⊎-elim}
 use Prim.Native.Nat.{ℕ, zero, suc, _+_, _-_, _*_, _/_, _%_, _^_, _≤_, _<_}
 use native.Mathlib.Nat.{not-suc-le-zero, mod-one, mod-lt, mod-eq-of-lt, pow-suc, add-zero, zero-add, suc-add, mul-comm, mul-assoc, div-div-eq-div-mul}
@@ -223,7 +223,7 @@ length-fill n s i v = length-splice s i (replicate n v)
 
 -- ---- numbers
 
-pow-pos : (n : ℕ) → 0 < 256 ^ n
+pub pow-pos : (n : ℕ) → 0 < 256 ^ n
 pow-pos zero = lit< tt
 pow-pos (suc n) = rw pow-suc (let h : 0 < 256 ^ n = pow-pos n in omega arith)
 
@@ -258,6 +258,15 @@ number-zero (suc n) s i h =
     let a : byteAt s i ≡ 0 = h i (omega arith) (omega arith) in
     let b : number n s (suc i) ≡ 0 = number-zero n s (suc i) (λ j l m. h j (omega arith) (omega arith)) in
     omega arith
+
+-- a number is zero only if its bytes are
+pub zero-byte : (n : ℕ) (s : Bytes) (i : ℕ) → number n s i ≡ 0 → (j : ℕ) → j < n → byteAt s (i + j) ≡ 0
+unfolding number
+zero-byte zero s i e j h = absurd (not-suc-le-zero h)
+zero-byte (suc n) s i e zero h = let q : i + 0 ≡ i = omega arith in rw q (omega arith)
+zero-byte (suc n) s i e (suc j) h =
+    let q : i + suc j ≡ suc i + j = omega arith in
+    rw q (zero-byte n s (suc i) (omega arith) j (omega arith))
 
 -- the first n bytes and the m after them
 pub number-add : (n m : ℕ) (s : Bytes) (i : ℕ) → number (n + m) s i ≡ number n s i + 256 ^ n * number m s (i + n)
@@ -424,6 +433,11 @@ module _ {A : Type 0} (g : ℕ → A) where
 
   pub listOf-past : (n k : ℕ) (d : A) → n ≤ k → getD (listOf g n) k d ≡ d
   listOf-past n k d h = List·getD-eq-default (listOf g n) d (rw length-listOf h)
+
+pub map-listFrom : {A B : Type 0} (f : A → B) (g : ℕ → A) (a n : ℕ) → map f (listFrom g a n) ≡ listFrom (λ k. f (g k)) a n
+unfolding listFrom
+map-listFrom f g a zero = refl
+map-listFrom {B = B} f g a (suc n) = ap (λ (r : List B). f (g a) ∷ r) (map-listFrom f g (suc a) n)
 
 pub listFrom-agree : {A : Type 0} (g h : ℕ → A) (a n : ℕ) → ((k : ℕ) → a ≤ k → k < a + n → g k ≡ h k) → listFrom g a n ≡ listFrom h a n
 unfolding listFrom

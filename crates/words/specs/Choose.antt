@@ -1,11 +1,13 @@
--- Laws of tests: `cond`, the if-then-else of every definition that goes by a test; `&&`, `||` and `not`; and how a test reads as a fact.
+-- Laws of tests: `cond`, the if-then-else of every definition that goes by a test; `&&` and `||`; how a test reads as a fact, and where it is the answer of a decision.
 -- Assumes nothing.
 use mathlib.Core.Path.{_≡_, refl, sym, ap, _∙_}
-use mathlib.Core.Bool.{Bool, true, false, cond, not, _&&_, _||_, true≢false, false≢true}
+use mathlib.Core.Bool.{Bool, true, false, cond, _&&_, _||_, true≢false, false≢true}
 use mathlib.Core.Logic.{_≢_, _⊎_, inl, inr, ⊎-elim, _↔_}
 use Prim.Native.Nat.{ℕ, _≤_, _<_}
+use native.Mathlib.Decide.{decLe, decLt}
 use lib.Dec.{ltb, leb, eqb}
 use borrow.Author.Tests.{ltb-true, ltb-false, leb-true, leb-false, lt-ltb, le-ltb, le-leb, lt-leb, eqb-true, eqb-false, eq-eqb, ne-eqb}
+use Rattle.words.specs.Decide.{does, does-true, true-does}
 
 -- ---- one test
 
@@ -90,7 +92,7 @@ pub came-no : {A : Type 0} (P : A → Type 0) (b : Bool) (x y : A) → (P x → 
 came-no P true x y h p = absurd (h p)
 came-no P false x y h p = (refl, p)
 
--- ---- and, or, not: taken apart and put together
+-- ---- and, or: taken apart and put together
 
 pub both : (a b : Bool) → a && b ≡ true → (a ≡ true) × (b ≡ true)
 both true b e = (refl, e)
@@ -127,14 +129,6 @@ neither false b e = (refl, e)
 pub neither-of : {a b : Bool} → a ≡ false → b ≡ false → a || b ≡ false
 neither-of {a} {b} p q = ap (λ (x : Bool). x || b) p ∙ q
 
-pub not-true : (b : Bool) → not b ≡ true → b ≡ false
-not-true true e = absurd (false≢true e)
-not-true false e = refl
-
-pub not-false : (b : Bool) → not b ≡ false → b ≡ true
-not-false true e = refl
-not-false false e = absurd (true≢false e)
-
 -- ---- how a test reads: one line for a clause of a larger test
 
 pub lt-reads : (m n : ℕ) → (ltb m n ≡ true) ↔ (m < n)
@@ -146,10 +140,22 @@ le-reads m n = (leb-true m n, le-leb m n)
 pub eq-reads : (m n : ℕ) → (eqb m n ≡ true) ↔ (m ≡ n)
 eq-reads m n = (eqb-true m n, eq-eqb m n)
 
-pub and-reads : {P Q : Type 0} (a b : Bool) → (a ≡ true) ↔ P → (b ≡ true) ↔ Q → (a && b ≡ true) ↔ (P × Q)
-and-reads a b p q =
+pub and-reads : {P Q : Type 0} {a b : Bool} → (a ≡ true) ↔ P → (b ≡ true) ↔ Q → (a && b ≡ true) ↔ (P × Q)
+and-reads {a = a} {b = b} p q =
     (λ e. let h = both a b e in (p .0 (h .0), q .0 (h .1)), λ h. both-of (p .1 (h .0)) (q .1 (h .1)))
 
-pub or-reads : {P Q : Type 0} (a b : Bool) → (a ≡ true) ↔ P → (b ≡ true) ↔ Q → (a || b ≡ true) ↔ (P ⊎ Q)
-or-reads a b p q =
+pub or-reads : {P Q : Type 0} {a b : Bool} → (a ≡ true) ↔ P → (b ≡ true) ↔ Q → (a || b ≡ true) ↔ (P ⊎ Q)
+or-reads {a = a} {b = b} p q =
     (λ e. ⊎-elim (λ x. inl (p .0 x)) (λ x. inr (q .0 x)) (either a b e), ⊎-elim (λ x. left-of a b (p .1 x)) (λ x. right-of a b (q .1 x)))
+
+-- ---- a test as a decision's answer
+
+-- a test that holds where the fact does is the answer
+pub does-same : {A : Type 0} (b : Bool) (d : Dec A) → (b ≡ true → A) → (A → b ≡ true) → b ≡ does d
+does-same b d h k = bool-same b (does d) (λ e. true-does d (h e)) (λ e. k (does-true d e))
+
+pub does-lt : (m n : ℕ) → ltb m n ≡ does (decLt m n)
+does-lt m n = does-same (ltb m n) (decLt m n) (ltb-true m n) (lt-ltb m n)
+
+pub does-le : (m n : ℕ) → leb m n ≡ does (decLe m n)
+does-le m n = does-same (leb m n) (decLe m n) (leb-true m n) (le-leb m n)

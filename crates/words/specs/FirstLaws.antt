@@ -128,13 +128,10 @@ all-from (suc n) t h = and-elim (allBelow n t) (t n) (all-from n t (λ k l. h k 
 pub all-as : {P : ℕ → Type 0} (n : ℕ) (t : ℕ → Bool) → ((k : ℕ) → (t k ≡ true) ↔ P k) → (allBelow n t ≡ true) ↔ ((k : ℕ) → k < n → P k)
 all-as n t h = (λ e k l. h k .0 (all-holds n t e k l), λ f. all-from n t (λ k l. h k .1 (f k l)))
 
-pub all-fails : (n : ℕ) (t : ℕ → Bool) (k : ℕ) → k < n → t k ≡ false → allBelow n t ≡ false
-all-fails n t k l e = false-by (λ h. true-not-false (all-holds n t h k l) e)
-
 -- what a scan that returns false at the first failure has at its two ends
 module _ (n : ℕ) (t : ℕ → Bool) (i : ℕ) where
   pub all-broken : i < n → t i ≡ false → false ≡ allBelow n t
-  all-broken l h = sym (all-fails n t i l h)
+  all-broken l e = sym (false-by (λ h. true-not-false (all-holds n t h i l) e))
 
   pub all-ended : ((j : ℕ) → j < i → t j ≡ true) → n ≤ i → true ≡ allBelow n t
   all-ended before h = sym (all-from n t (λ k l. before k (omega arith)))

@@ -1,8 +1,8 @@
 -- `terms::equal` meets its contract: a term is equal to itself, and under the identity it is itself.
 
-use Rattle.words.specs.Decide.{does}
+use Rattle.words.specs.Decide.{does, true-does}
 use Rattle.rules.specs.Types.{variable, Tree, decTree}
-use Rattle.terms.specs.Compare.{term-identity, does-yes}
+use Rattle.terms.specs.Compare.{term-identity}
 use Rattle.rules.specs.Decode.{moduleOf}
 use borrow.Author.Needs.{needs}
 use denote.Ref.{now}
@@ -12,7 +12,7 @@ use Rattle.terms.proofs.equal.Statement.{statement}
 use Rattle.terms.proofs.equal.Tie as tie
 
 returns : tie.Need-returns
-returns c = let a = c .before .before .args in rw (c .if1 .taken) (sym (does-yes (decTree (moduleOf (now (a .f)) .term (a .b)) (moduleOf (now (a .f)) .term (a .b))) refl))
+returns c = let a = c .before .before .args in rw (c .if1 .taken) (sym (true-does (decTree (moduleOf (now (a .f)) .term (a .b)) (moduleOf (now (a .f)) .term (a .b))) refl))
 
 returns-2 : tie.Need-returns-2
 returns-2 c = let a = c .before .before .before .before .before .before .args in
