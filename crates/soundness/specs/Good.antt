@@ -20,6 +20,7 @@ use Rattle.rules.specs.Typing.{_⊢_∶_, Typed, t-call}
 use Rattle.rules.specs.State.{View, memoryNumber}
 use Rattle.rules.specs.Heap.{close, Local, Live, localList, liveList, look, typeOf, heapTyping, Value}
 use Rattle.rules.specs.StateTest.{Chained, FramesOk}
+use Rattle.state.specs.Regions.{length-localList}
 use Rattle.soundness.specs.Fresh.{In, in-head, in-tail, in-left, in-right}
 use Rattle.layout.specs.Types.{close-agree, close-sub, Outer, outer-close}
 use Rattle.layout.specs.Close.{has-close}
@@ -224,11 +225,6 @@ live-in m fn map (suc n) r l = go (ℕ-discrete (l .frame) n) (λ k. live-in m f
     go (no e) f = in-right r top (liveList m fn map n) (f (record { frame = l .frame; below = omega (arith, l .below); local = l .local }))
 
 -- n frames have at most 7 n live regions
-local-length : (μ : ℕ → ℕ) (lo c : ℕ) → length (localList μ lo c) ≡ c
-unfolding localList
-local-length μ lo zero = refl
-local-length μ lo (suc c) = ap suc (local-length μ lo c)
-
 pub live-length : (m : Module) → ModuleOk m → (fn : ℕ → ℕ) (map : ℕ → ℕ → ℕ) (n : ℕ) → ((k : ℕ) → k < n → fn k < m .functions) → length (liveList m fn map n) ≤ 7 * n
 unfolding liveList
 live-length m ok fn map zero h = omega arith
@@ -237,6 +233,6 @@ live-length m ok fn map (suc n) h =
     let l = localList (map n) (f .regionParams) (f .locals) in
     let r = liveList m fn map n in
     let a : length (l ++ r) ≡ length l + length r = length-append l r in
-    let b : length l ≡ f .locals = local-length (map n) (f .regionParams) (f .locals) in
+    let b : length l ≡ f .locals = length-localList (map n) (f .regionParams) (f .locals) in
     let c : length r ≤ 7 * n = live-length m ok fn map n (λ k d. h k (omega arith)) in
     omega (arith, a, b, c, ok .function (fn n) (h n (omega arith)) .ranges .regions)

@@ -30,12 +30,13 @@ use Rattle.rules.specs.Claim.{Touches}
 use Rattle.layout.specs.TypesOk.{GoodTree, good-ptr}
 use Rattle.state.specs.Update.{upd-same}
 use Rattle.state.specs.Apply.{granted}
+use Rattle.state.specs.Regions.{length-numbers}
 use Rattle.layout.specs.Close.{close-width, close-prim, size-close}
 use Rattle.layout.specs.Heap.{Slot, stands-slot, value-bound}
 use Rattle.layout.specs.Pointers.{stands-field, stands-element, stands-object, touched-object, touched-bytes}
 use Rattle.typing.specs.Facts.{FunctionFacts, GoesOn}
 use Rattle.soundness.specs.Facts.{ModuleOk}
-use Rattle.soundness.specs.Fresh.{numbers-length, numbers-out, numbers-differ, numbers-small, number-in}
+use Rattle.soundness.specs.Fresh.{numbers-out, numbers-differ, numbers-small, number-in}
 use Rattle.soundness.specs.Operations.{Fits, cut-lt, operate-fits, quotient-fits, compare-fits}
 use Rattle.soundness.specs.Good.{Good, CallRule, chain-rule, through-types, map-live, map-typed, live-length}
 use Rattle.soundness.specs.Preserve.{SafePush}
@@ -317,7 +318,7 @@ module _ (m : Module) (ok : ModuleOk m) (form : Bytes) (bytes : AllBytes form) (
         omega (arith, x, live-length m ok (v .fn) (v .map) (suc k) (g .frames .known), ok .function h (rule .known) .ranges .regions));
     spare = λ i l.
         cond-nlt (v .map k (arg rs (region i) .number)) (getD new (i - m .function h .regionParams) 0) {m = i} {n = m .function h .regionParams} (omega arith)
-        ∙ List·getD-eq-default new 0 (omega (arith, numbers-length (m .function h .locals) lives));
+        ∙ List·getD-eq-default new 0 (omega (arith, length-numbers (m .function h .locals) lives));
     values = λ i l. cond-lt (v .reg k (argument xs i)) 0 l;
     zeros = λ i l. cond-nlt (v .reg k (argument xs i)) 0 l;
   }

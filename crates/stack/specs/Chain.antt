@@ -3,13 +3,12 @@
 use mathlib.Core.Path.{_≡_, refl, sym, ap, _∙_}
 use mathlib.Core.Bool.{Bool, cond, _&&_}
 use mathlib.Core.Logic.{_≢_}
-use mathlib.Core.List.{List, [], _∷_, _++_}
-use Prim.Native.Nat.{ℕ, zero, suc, _+_, _/_, _%_, _<_, _≤_, _^_}
+use mathlib.Core.List.{List, []}
+use Prim.Native.Nat.{ℕ, zero, suc, _+_, _/_, _%_, _<_, _^_}
 use native.Mathlib.Numerals.{add-one}
-use native.Mathlib.Decide.{decLt}
 use native.Mathlib.Omega.{arith}
 use lib.Dec.{eqb, ltb}
-use lib.ListN.{length, getD, length-append}
+use lib.ListN.{length}
 use borrow.Author.Tests.{ne-eqb}
 use Rattle.words.specs.Bytes.{Bytes, AllBytes, listOf}
 use Rattle.words.specs.ByteLaws.{getD-listOf}
@@ -17,7 +16,7 @@ use Rattle.words.specs.Choose.{cond-split, eq-or-ne}
 use Rattle.rules.specs.File.{records, recordOf, recordStart, byteOfD, entryOf, instructionsOf, parametersOf, kindCall, Group, arithmetic, memory, control, groupOf}
 use Rattle.rules.specs.Types.{Variable, region, arg, nowhere}
 use Rattle.rules.specs.Module.{Instruction, call}
-use Rattle.rules.specs.Walk.{next, scan, nextScan, whole}
+use Rattle.rules.specs.Walk.{whole}
 use Rattle.rules.specs.Records.{headOf}
 use Rattle.rules.specs.Decode.{moduleOf, functionOf, after, codeAt, codeOf, callOf, regionBytes, arithmeticOf, memoryOf, controlOf, byGroup, instructionOf, startOf, instructionAt}
 use Rattle.rules.specs.State.{view, frameFunction, frameInstruction, frameMap}
@@ -25,28 +24,13 @@ use Rattle.rules.specs.Step.{IsCall, notCall}
 use Rattle.rules.specs.StateTest.{Chained}
 use Rattle.rules.specs.declared.Record.{Record}
 use Rattle.state.specs.Reads.{instruction-lt}
-use Rattle.typing.specs.Lists.{getD-left, getD-last, getD-past}
 use Rattle.typing.specs.Walk.{skip, skip-suc}
 use Rattle.walk.specs.Code.{registers-far, skip-far, instruction-skip}
+use Rattle.walk.specs.Tables.{starts-below}
 use Rattle.stack.specs.Tells.{Tells, tells-map, tells-eq, tells-lt, tells-and}
 use Rattle.stack.specs.Facts.{functionAt, headAt, params-at, length-at}
 
 -- ---- no place of a short file is far
-
-snoc-below : (l : List ℕ) (r g : ℕ) → getD l g 0 ≤ r → getD (l ++ r ∷ []) g 0 ≤ suc r
-snoc-below l r g h = go (decLt g (length l)) (decLt (length l) g)
-  where
-    go : Dec (g < length l) → Dec (length l < g) → getD (l ++ r ∷ []) g 0 ≤ suc r
-    go (yes a) b = rw (getD-left 0 l (r ∷ []) g a) (omega arith)
-    go (no a) (yes b) = rw (getD-past 0 (l ++ r ∷ []) g (rw length-append (omega arith))) (omega arith)
-    go (no a) (no b) = rw (getD-last 0 l r g (omega arith)) (omega arith)
-
-starts-below : (f : Bytes) (r g : ℕ) → getD (scan f r .starts) g 0 ≤ r
-unfolding scan nextScan
-starts-below f zero g = let e : getD {A = ℕ} [] g 0 ≡ 0 = getD-past 0 [] g (omega arith) in omega arith
-starts-below f (suc r) g =
-    let h = starts-below f r g in
-    cond-split (λ (l : List ℕ). getD l g 0 ≤ suc r) (ltb (scan f r .walk .functions) (next (scan f r .walk) (recordOf f r) r .functions)) (scan f r .starts ++ r ∷ []) (scan f r .starts) (λ e. snoc-below (scan f r .starts) r g h) (λ e. omega arith)
 
 pub start-few : (f : Bytes) (g : ℕ) → length f < 2 ^ 32 → startOf f g < 2 ^ 30
 unfolding startOf whole records

@@ -13,4 +13,5 @@ pub mod Marks
 pub mod Fields
 pub mod NewFrame
 pub mod Pages
+pub mod Regions
 pub mod Opening

@@ -7,7 +7,7 @@ use mathlib.Core.List.{[], _∷_, _++_}
 use Prim.Native.Nat.{ℕ, zero, suc, _+_, _-_, _/_, _<_, _≤_}
 use native.Mathlib.Omega.{arith}
 use lib.Dec.{eqb}
-use lib.ListN.{length, getD, length-append, List·getD-append, List·getD-eq-default}
+use lib.ListN.{getD, length-append, List·getD-append, List·getD-eq-default}
 use lib.Seq.{getD-at}
 use Rattle.words.specs.Bytes.{Bytes, AllBytes}
 use Rattle.words.specs.ByteLaws.{listOf-agree, number-lt}
@@ -16,6 +16,7 @@ use Rattle.rules.specs.File.{recordOf, recordStart, byteOfD, entryOf}
 use Rattle.rules.specs.Types.{variable, region, Tree}
 use Rattle.rules.specs.Decode.{noTree, regionBytes, treeOf, treesOf}
 use Rattle.rules.specs.declared.Record.{Record}
+use Rattle.typing.specs.Types.{trees-length}
 use Rattle.terms.specs.declared.Head.{Head}
 use Rattle.terms.specs.declared.Head.the-variants.{Int, Ptr, Arr, Struct}
 use Rattle.terms.specs.Heads.{digit, argsOf, placeOf, treeAt, headFrom, headOf, grow}
@@ -91,11 +92,6 @@ pub place-le : (n t : ℕ) → placeOf n t ≤ n
 unfolding placeOf
 place-le n t = split-lt (λ (p : ℕ). p ≤ n) t n (suc t) 0 (λ h. omega arith) (λ h. omega arith)
 
-pub length-trees : (f : Bytes) (n : ℕ) → length (treesOf f n) ≡ n
-unfolding treesOf
-length-trees f zero = refl
-length-trees f (suc n) = let e = length-trees f n in let a = length-append (treesOf f n) (treeOf (treesOf f n) (recordOf f n) ∷ []) in omega arith
-
 -- the first n trees, by places
 module _ (f : Bytes) (n t : ℕ) (before : getD (treesOf f n) t noTree ≡ treeAt f (placeOf n t)) where
   abbrev new : Tree variable
@@ -103,17 +99,17 @@ module _ (f : Bytes) (n t : ℕ) (before : getD (treesOf f n) t noTree ≡ treeA
 
   tree-old : t < n → getD (treesOf f n ++ new ∷ []) t noTree ≡ treeAt f (placeOf (suc n) t)
   tree-old h =
-      List·getD-append (treesOf f n) (new ∷ []) noTree t (omega (arith, length-trees f n)) ∙ before
+      List·getD-append (treesOf f n) (new ∷ []) noTree t (omega (arith, trees-length f n)) ∙ before
       ∙ ap (treeAt f) (place-in n t h ∙ sym (place-in (suc n) t (omega arith)))
 
   tree-last : t ≡ n → getD (treesOf f n ++ new ∷ []) t noTree ≡ treeAt f (placeOf (suc n) t)
   unfolding treeAt
-  tree-last e = rw (e, place-in (suc n) n (omega arith)) (getD-at (treesOf f n) new [] noTree n (length-trees f n))
+  tree-last e = rw (e, place-in (suc n) n (omega arith)) (getD-at (treesOf f n) new [] noTree n (trees-length f n))
 
   tree-past : n < t → getD (treesOf f n ++ new ∷ []) t noTree ≡ treeAt f (placeOf (suc n) t)
   unfolding treeAt
   tree-past h =
-      List·getD-eq-default (treesOf f n ++ new ∷ []) noTree (omega (arith, length-trees f n, length-append (treesOf f n) (new ∷ [])))
+      List·getD-eq-default (treesOf f n ++ new ∷ []) noTree (omega (arith, trees-length f n, length-append (treesOf f n) (new ∷ [])))
       ∙ ap (treeAt f) (sym (place-out (suc n) t (omega arith)))
 
   tree-more : getD (treesOf f n ++ new ∷ []) t noTree ≡ treeAt f (placeOf (suc n) t)

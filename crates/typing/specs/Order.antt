@@ -57,7 +57,8 @@ pub instruction-less : (f : Bytes) (g i j : ℕ) → i < j → j < moduleOf f .f
 instruction-less f g i j h l = omega (arith, at-skip f g i (omega arith), at-skip f g j l, skip-less f (codeAt f (startOf f g)) i j h)
 
 module _ (f : Bytes) (ok : Fits f) where
-  next-start : (g : ℕ) → suc g < moduleOf f .functions → endOf f (startOf f g) ≤ startOf f (suc g)
+  -- each function ends before the next starts
+  pub next-start : (g : ℕ) → suc g < moduleOf f .functions → endOf f (startOf f g) ≤ startOf f (suc g)
   unfolding moduleOf startOf
   next-start g h = good f ok .behind g h
 
