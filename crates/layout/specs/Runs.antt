@@ -175,10 +175,10 @@ module _ {k : RegionKind} where
 
   -- ---- elements of an array
 
-  nth-left : (L M : Layout k) (i : ℕ) → i < count L → nth (packed L M) i ≡ nth L i
+  pub nth-left : (L M : Layout k) (i : ℕ) → i < count L → nth (packed L M) i ≡ nth L i
   nth-left L M i h = List·getD-append (L .prims) (map (moved (L .size)) (M .prims)) (at 0 (int 0)) i h
 
-  nth-right : (L M : Layout k) (i : ℕ) → i < count M → nth (packed L M) (count L + i) ≡ moved (L .size) (nth M i)
+  pub nth-right : (L M : Layout k) (i : ℕ) → i < count M → nth (packed L M) (count L + i) ≡ moved (L .size) (nth M i)
   nth-right L M i h = getD-append-add (L .prims) (map (moved (L .size)) (M .prims)) i (at 0 (int 0)) ∙ getD-map (moved (L .size)) (M .prims) i (at 0 (int 0)) (at 0 (int 0)) h
 
   -- copy i of primitive j

@@ -3,27 +3,27 @@
 use mathlib.Core.Path.{_≡_, refl, sym, ap, _∙_, subst}
 use mathlib.Core.Logic.{⊎-elim}
 use mathlib.Core.Bool.{cond}
-use mathlib.Core.List.{[], _∷_, map}
+use mathlib.Core.List.{[], _∷_}
 use Prim.Native.Nat.{ℕ, zero, suc, _+_, _-_, _*_, _/_, _%_, _≤_, _<_}
 use native.Mathlib.Nat.{add-zero, mul-le-mul-right, div-lt-iff-lt-mul, div-add-mod', mod-lt}
 use native.Mathlib.Omega.{arith}
 use lib.Dec.{ltb}
-use lib.ListN.{length, getD, List·getD-append, List·getD-map, List·getD-eq-default}
-use lib.Seq.{getD-append-add}
+use lib.ListN.{length, getD, List·getD-eq-default}
 use Rattle.words.specs.Bytes.{Bytes}
 use Rattle.words.specs.ByteLaws.{getD-listOf, listOf-past}
 use Rattle.words.specs.Choose.{cond-lt, cond-nlt, lt-or-le}
-use Rattle.rules.specs.Types.{RegionKind, variable, Region, Variable, region, int, sub, arg, nowhere}
+use Rattle.rules.specs.Types.{RegionKind, variable, Region, Variable, region, sub, arg, nowhere}
 use Rattle.rules.specs.Flat.{Placed, at, off, Layout, count, single, moved, packed, beside, copiesOf, placedIn, subLayout, flatWith, fieldsWith, layouts}
 use Rattle.rules.specs.Decode.{moduleOf}
-use Rattle.layout.specs.Lists.{getD-map}
 use Rattle.layout.specs.Types.{sub-sub}
-use Rattle.layout.specs.Prims.{nth, moved-moved, moved-zero, placed-moved, count-packed, count-copiesOf, size-copiesOf, beside-sized, beside-none, copies-sized, copies-fit, subLayout-size, count-sub}
+use Rattle.layout.specs.Prims.{nth, moved-moved, placed-moved, count-packed, count-copiesOf, size-copiesOf, beside-sized, beside-none, copies-sized, copies-fit, subLayout-size, count-sub}
+use Rattle.layout.specs.Flat.{struct-known}
+use Rattle.layout.specs.Runs.{nth-left, nth-right, nth-copies as nth-copy, nth-sub}
 use Rattle.terms.specs.declared.Head.the-variants.{Int, Ptr, Arr, Struct}
 use Rattle.terms.specs.Heads.{digit, argsOf, treeAt, headOf, grow}
 use Rattle.terms.specs.HeadLaws.{tree-step}
 use Rattle.terms.specs.Extents.{Terms, fieldPlace, fieldCount, firsts}
-use Rattle.terms.specs.ExtentLaws.{layout-known, layout-unknown, fields-firsts, module-fields}
+use Rattle.terms.specs.ExtentLaws.{layout-unknown, fields-firsts, module-fields}
 use Rattle.terms.specs.Compare.{byteUnder, under, under-is, sub-same}
 use Rattle.runs.specs.Table.{termLayout, structLayout, Core}
 use Rattle.runs.specs.TableLaws.{layout-at, layout-arr}
@@ -79,40 +79,16 @@ placedOf k f r = at (r .off) (sub (under (r .to)) (treeAt f (r .place)))
 abbrev pub Found : Bytes → Primitive → Bytes → ℕ → Placed variable → Type 0
 Found f r to off P = (k : RegionKind) → placedOf k f r ≡ moved off (placedIn (under to) P)
 
-module _ {k : RegionKind} where
-  pub nth-left : (L M : Layout k) (i : ℕ) → i < count L → nth (packed L M) i ≡ nth L i
-  nth-left L M i h = List·getD-append (L .prims) (map (moved (L .size)) (M .prims)) (at 0 (int 0)) i h
+-- an array's primitives are its element's, shifted
+module _ {k : RegionKind} (n : ℕ) (L : Layout k) (i : ℕ) (some : 0 < count L) (inside : i < n * count L) where
+  pub copy-before : i / count L < n
+  copy-before = div-lt-iff-lt-mul some .1 inside
 
-  pub nth-right : (L M : Layout k) (i : ℕ) → i < count M → nth (packed L M) (count L + i) ≡ moved (L .size) (nth M i)
-  nth-right L M i h =
-      getD-append-add (L .prims) (map (moved (L .size)) (M .prims)) i (at 0 (int 0)) ∙ getD-map (moved (L .size)) (M .prims) i (at 0 (int 0)) (at 0 (int 0)) h
+  pub copy-inside : i % count L < count L
+  copy-inside = mod-lt i some
 
-  -- an array's primitives are its element's, shifted
-  nth-copy : (n : ℕ) (L : Layout k) (i j : ℕ) → i < n → j < count L → nth (copiesOf n L) (i * count L + j) ≡ moved (i * L .size) (nth L j)
-  unfolding copiesOf
-  nth-copy zero L i j h l = absurd (omega arith)
-  nth-copy (suc n) L zero j h l =
-      (let e : 0 * count L + j ≡ j = omega arith in ap (λ (x : ℕ). nth (packed L (copiesOf n L)) x) e)
-      ∙ nth-left L (copiesOf n L) j l ∙ sym (moved-zero (nth L j)) ∙ (let e : 0 ≡ 0 * L .size = omega arith in ap (λ (x : ℕ). moved x (nth L j)) e)
-  nth-copy (suc n) L (suc i) j h l =
-      let m : suc i * count L ≤ n * count L = mul-le-mul-right (count L) (omega arith) in
-      (let e : suc i * count L + j ≡ count L + (i * count L + j) = omega arith in ap (λ (x : ℕ). nth (packed L (copiesOf n L)) x) e)
-      ∙ nth-right L (copiesOf n L) (i * count L + j) (omega (arith, count-copiesOf n L)) ∙ ap (moved (L .size)) (nth-copy n L i j (omega arith) l)
-      ∙ moved-moved (L .size) (i * L .size) (nth L j) ∙ (let e : L .size + i * L .size ≡ suc i * L .size = omega arith in ap (λ (x : ℕ). moved x (nth L j)) e)
-
-  module _ (n : ℕ) (L : Layout k) (i : ℕ) (some : 0 < count L) (inside : i < n * count L) where
-    pub copy-before : i / count L < n
-    copy-before = div-lt-iff-lt-mul some .1 inside
-
-    pub copy-inside : i % count L < count L
-    copy-inside = mod-lt i some
-
-    pub nth-copies : nth (copiesOf n L) i ≡ moved (i / count L * L .size) (nth L (i % count L))
-    nth-copies = ap (λ (x : ℕ). nth (copiesOf n L) x) (sym (div-add-mod' i (count L))) ∙ nth-copy n L (i / count L) (i % count L) copy-before copy-inside
-
-pub nth-sub : {j k : RegionKind} (σ : Region j → Region k) (L : Layout j) (i : ℕ) → nth (subLayout σ L) i ≡ placedIn σ (nth L i)
-unfolding subLayout sub
-nth-sub σ L i = List·getD-map (placedIn σ) (L .prims) i (at 0 (int 0))
+  pub nth-copies : nth (copiesOf n L) i ≡ moved (i / count L * L .size) (nth L (i % count L))
+  nth-copies = ap (λ (x : ℕ). nth (copiesOf n L) x) (sym (div-add-mod' i (count L))) ∙ nth-copy n L (i / count L) (i % count L) copy-before copy-inside
 
 placed-placed : {i j k : RegionKind} (σ : Region j → Region k) (τ : Region i → Region j) (ρ : Region i → Region k) → ((v : Region i) → σ (τ v) ≡ ρ v) → (P : Placed i) → placedIn σ (placedIn τ P) ≡ placedIn ρ P
 placed-placed {k = k} σ τ ρ h (at d T) = ap {B = Placed k} (at d) (sub-sub σ τ T ∙ sub-same (λ v. σ (τ v)) ρ h T)
@@ -145,7 +121,7 @@ module _ (f : Bytes) (k p off i : ℕ) (to : Bytes) where
   module _ (N c d : ℕ) (e : headOf f p ≡ Struct N c d) (l : N < k) where
     pub layout-struct : termLayout f k p ≡ subLayout (arg (argsOf d c)) (structLayout f N)
     unfolding grow flatWith structLayout
-    layout-struct = layout-at f k p (Struct N c d) e ∙ ap (subLayout (arg (argsOf d c))) (layout-known (moduleOf f) k N l)
+    layout-struct = layout-at f k p (Struct N c d) e ∙ ap (subLayout (arg (argsOf d c))) (struct-known (moduleOf f) k N l)
 
     pub struct-size : structLayout f N .size ≡ termLayout f k p .size
     struct-size = sym (subLayout-size (arg (argsOf d c)) (structLayout f N)) ∙ ap (λ (L : Layout variable). L .size) (sym layout-struct)

@@ -20,13 +20,14 @@ use Rattle.rules.specs.Flat.{Placed, Layout, count, none, beside, copiesOf, cop
 use Rattle.rules.specs.Decode.{moduleOf}
 use Rattle.rules.specs.declared.Record.{Record}
 use Rattle.layout.specs.Prims.{count-packed, count-copiesOf, size-copiesOf, beside-sized, beside-none, copies-sized, copies-none, copies-fit, subLayout-size}
+use Rattle.layout.specs.Flat.{struct-known}
 use Rattle.terms.specs.declared.Extent.{Extent}
 use Rattle.terms.specs.declared.Head.{Head}
 use Rattle.terms.specs.declared.Head.the-variants.{Int, Ptr, Arr, Struct}
 use Rattle.terms.specs.Heads.{placeOf, treeAt, headFrom, headOf, grow}
 use Rattle.terms.specs.HeadLaws.{tree-step, head-none, place-le, Fair, fair}
 use Rattle.terms.specs.Extents.{Terms, Counted, over, plus, times, Small, termExtent, fieldPlace, fieldCount, firsts, soFar}
-use Rattle.terms.specs.ExtentLaws.{cap-same, plus-over, plus-fits, times-over, times-fits, term-int, term-ptr, term-arr, term-known, term-unknown, struct-all, so-begin, so-more, layout-known, layout-unknown, fields-firsts, module-fields, module-term}
+use Rattle.terms.specs.ExtentLaws.{cap-same, plus-over, plus-fits, times-over, times-fits, term-int, term-ptr, term-arr, term-known, term-unknown, struct-all, so-begin, so-more, layout-unknown, fields-firsts, module-fields, module-term}
 use Rattle.runs.specs.Table.{termLayout, structLayout, exactOf, InRange, Ranged, pack, unpack, entryAt, coreAt, Core, Few, Filled, Known, Table}
 
 -- ---- no more primitives than bytes
@@ -134,10 +135,10 @@ module _ (f : Bytes) (n : ℕ) (range : Ranged f n) where
       unfolding structLayout
       neat-layouts zero N = rw (layout-unknown (moduleOf f) 0 N (omega arith)) (neat-none variable)
       neat-layouts (suc k) N = ⊎-elim
-          (λ l. rw (layout-known (moduleOf f) (suc k) N (omega arith) ∙ sym (layout-known (moduleOf f) k N l)) (neat-layouts k N))
+          (λ l. rw (struct-known (moduleOf f) (suc k) N (omega arith) ∙ sym (struct-known (moduleOf f) k N l)) (neat-layouts k N))
           (λ l. ⊎-elim
           (λ m. rw (layout-unknown (moduleOf f) (suc k) N m) (neat-none variable))
-          (λ m. let e : N ≡ k = omega arith in rw (layout-known (moduleOf f) (suc k) N (omega arith), e) (neat-struct k (neat-layouts k)))
+          (λ m. let e : N ≡ k = omega arith in rw (struct-known (moduleOf f) (suc k) N (omega arith), e) (neat-struct k (neat-layouts k)))
           (lt-or-le k N))
           (lt-or-le N k)
 
@@ -281,7 +282,7 @@ with-more m k K h (int w) s = refl
 with-more m k K h (ptr T r) s = refl
 with-more m k K h (arr n T) s = copies-more n (flatWith (layouts m k) T) (flatWith (layouts m K) T) s (with-more m k K h T)
 with-more m k K h (struct N rs) s = ⊎-elim
-    (λ l. ap (subLayout (arg rs)) (layout-known m k N l ∙ sym (layout-known m K N (omega arith))))
+    (λ l. ap (subLayout (arg rs)) (struct-known m k N l ∙ sym (struct-known m K N (omega arith))))
     (λ l. absurd (omega (arith, subLayout-size (arg rs) (getD (layouts m k) N none), ap (λ (L : Layout variable). L .size) (layout-unknown m k N l), s)))
     (lt-or-le N k)
 

@@ -2,21 +2,22 @@
 -- field, as the code makes them. Assumes nothing.
 use mathlib.Core.Path.{_≡_, refl, sym, ap, ap₂, _∙_}
 use mathlib.Core.Logic.{⊎-elim}
-use mathlib.Core.List.{List, [], _∷_, map}
+use mathlib.Core.List.{List, []}
 use Prim.Native.Nat.{ℕ, zero, suc, _+_, _-_, _*_, _<_, _≤_}
 use native.Mathlib.Nat.{add-zero, zero-add}
 use native.Mathlib.Numerals.{add-one}
 use native.Mathlib.Omega.{arith}
-use lib.ListN.{length, getD, length-append, length-map, List·getD-append, List·getD-eq-default}
-use lib.Seq.{getD-at}
+use lib.ListN.{getD, length-map, List·getD-eq-default}
 use Rattle.words.specs.Bytes.{Bytes, listFrom, listOf}
 use Rattle.words.specs.ByteLaws.{listOf-agree}
 use Rattle.words.specs.Choose.{cond-le, cond-nle, lt-or-le}
 use Rattle.rules.specs.File.{recordOf, entryOf}
 use Rattle.rules.specs.Types.{RegionKind, variable, Region, Tree, arg}
 use Rattle.rules.specs.Module.{Module}
-use Rattle.rules.specs.Flat.{Layout, count, none, moved, packed, beside, copiesOf, copies, placedIn, subLayout, flatWith, fieldsFrom, fieldsWith, layouts, flat, structFlat}
+use Rattle.rules.specs.Flat.{Layout, count, none, beside, copies, placedIn, subLayout, flatWith, fieldsFrom, fieldsWith, layouts, flat, structFlat}
 use Rattle.rules.specs.Decode.{noTree, treesOf, structStart, fieldsOf, moduleOf}
+use Rattle.layout.specs.Prims.{count-packed, size-copiesOf, count-copiesOf, length-layouts}
+use Rattle.layout.specs.Flat.{struct-known}
 use Rattle.terms.specs.declared.Extent.{Extent}
 use Rattle.terms.specs.declared.Head.{Head}
 use Rattle.terms.specs.declared.Head.the-variants.{Int, Ptr, Arr, Struct}
@@ -69,20 +70,6 @@ unfolding times
 times-fits n e h = cond-le _ _ h
 
 module _ {k : RegionKind} where
-  count-packed : (L M : Layout k) → count (packed L M) ≡ count L + count M
-  count-packed L M =
-      length-append (L .prims) (map (moved (L .size)) (M .prims)) ∙ ap (λ (c : ℕ). count L + c) (length-map (M .prims) (moved (L .size)))
-
-  count-copies : (n : ℕ) (L : Layout k) → count (copiesOf n L) ≡ n * count L
-  unfolding copiesOf
-  count-copies zero L = omega arith
-  count-copies (suc n) L = let e = count-copies n L in let p = count-packed L (copiesOf n L) in omega arith
-
-  size-copies : (n : ℕ) (L : Layout k) → copiesOf n L .size ≡ n * L .size
-  unfolding copiesOf
-  size-copies zero L = omega arith
-  size-copies (suc n) L = let e = size-copies n L in omega arith
-
   pub extent-beside : (L M : Layout k) → extentOf (beside L M) ≡ plus (extentOf L) (extentOf M)
   unfolding beside plus
   extent-beside L M = ⊎-elim
@@ -101,7 +88,7 @@ module _ {k : RegionKind} where
       (λ h. ap (λ (N : Layout k). extentOf N) (cond-nle _ _ h) ∙ ap (λ (c : ℕ). record { size = 257; count = c }) (cap-same 0 (omega arith)) ∙ sym (cond-nle _ _ h))
       (λ h.
       ap (λ (N : Layout k). extentOf N) (cond-le _ _ h)
-      ∙ ap₂ (λ (s c : ℕ). record { size = s; count = c }) (size-copies n L) (ap cap (count-copies n L) ∙ cap-times n (count L)) ∙ sym (cond-le _ _ h))
+      ∙ ap₂ (λ (s c : ℕ). record { size = s; count = c }) (size-copiesOf n L) (ap cap (count-copiesOf n L) ∙ cap-times n (count L)) ∙ sym (cond-le _ _ h))
       (lt-or-le 256 (n * L .size))
 
 pub extent-sub : {j k : RegionKind} (σ : Region j → Region k) (L : Layout j) → extentOf (subLayout σ L) ≡ extentOf L
@@ -110,28 +97,7 @@ extent-sub σ L = ap (λ (c : ℕ). record { size = L .size; count = cap c }) (l
 
 -- ---- the layouts of the structs
 
-length-layouts : (m : Module) (n : ℕ) → length (layouts m n) ≡ n
-unfolding layouts
-length-layouts m zero = refl
-length-layouts m (suc n) =
-    let e = length-layouts m n in let a = length-append (layouts m n) (fieldsWith (layouts m n) (m .fields n) ∷ []) in omega arith
-
 module _ (m : Module) where
-  abbrev new : ℕ → Layout variable
-  new n = fieldsWith (layouts m n) (m .fields n)
-
-  known-last : (n N : ℕ) → N ≡ n → getD (layouts m (suc n)) N none ≡ new N
-  unfolding layouts
-  known-last n N e = rw e (getD-at (layouts m n) (new n) [] none n (length-layouts m n))
-
-  known-before : (n N : ℕ) → N < n → getD (layouts m (suc n)) N none ≡ getD (layouts m n) N none
-  unfolding layouts
-  known-before n N h = List·getD-append (layouts m n) (new n ∷ []) none N (omega (arith, length-layouts m n))
-
-  pub layout-known : (n N : ℕ) → N < n → getD (layouts m n) N none ≡ fieldsWith (layouts m N) (m .fields N)
-  layout-known zero N h = absurd (omega arith)
-  layout-known (suc n) N h = ⊎-elim (λ l. known-before n N l ∙ layout-known n N l) (λ l. known-last n N (omega arith)) (lt-or-le N n)
-
   pub layout-unknown : (n N : ℕ) → n ≤ N → getD (layouts m n) N none ≡ none
   layout-unknown n N h = List·getD-eq-default (layouts m n) none (omega (arith, length-layouts m n))
 
@@ -158,7 +124,7 @@ module _ (f : Bytes) (k p : ℕ) where
   unfolding grow flatWith structExtent
   term-known N n d e h =
       by-head (Struct N n d) e ∙ extent-sub (arg (argsOf d n)) (getD (layouts (moduleOf f) k) N none)
-      ∙ ap (λ (L : Layout variable). extentOf L) (layout-known (moduleOf f) k N h)
+      ∙ ap (λ (L : Layout variable). extentOf L) (struct-known (moduleOf f) k N h)
 
   pub term-unknown : (N n d : ℕ) → headOf f p ≡ Struct N n d → k ≤ N → termExtent f k p ≡ over
   unfolding grow flatWith cap
@@ -238,7 +204,7 @@ extent-term f n k h t =
 
 pub extent-struct : (f : Bytes) (n k : ℕ) → Counted f n k → (N : ℕ) → N < k → structExtent f N ≡ extentOf (structFlat (moduleOf f) N)
 unfolding structExtent structFlat
-extent-struct f n k h N l = ap (λ (L : Layout variable). extentOf L) (sym (layout-known (moduleOf f) (moduleOf f .structs) N (rw (h .structs) at l)))
+extent-struct f n k h N l = ap (λ (L : Layout variable). extentOf L) (sym (struct-known (moduleOf f) (moduleOf f .structs) N (rw (h .structs) at l)))
 
 pub extent-no-struct : (f : Bytes) (n k : ℕ) → Counted f n k → (N : ℕ) → k ≤ N → over ≡ extentOf (structFlat (moduleOf f) N)
 unfolding structFlat cap

@@ -1,9 +1,9 @@
 -- No type of an accepted file is empty: its size is not 0, and so it has places in a page. Assumes nothing.
-use mathlib.Core.Path.{_≡_, refl, sym, ap, _∙_}
+use mathlib.Core.Path.{_≡_, sym, _∙_}
 use mathlib.Core.Bool.{Bool, true, false, cond}
 use mathlib.Core.List.{List, [], _∷_, _++_}
 use Prim.Native.Nat.{ℕ, zero, suc, _+_, _*_, _<_, _≤_}
-use native.Mathlib.Nat.{suc-mul, zero-mul, mul-le-mul-left}
+use native.Mathlib.Nat.{mul-le-mul-left}
 use native.Mathlib.Decide.{ℕ-discrete, decLt}
 use native.Mathlib.Omega.{arith}
 use lib.Dec.{leb}
@@ -13,20 +13,16 @@ use Rattle.words.specs.Decide.{Each, more}
 use Rattle.rules.specs.Types.{RegionKind, variable, Tree, int, ptr, arr, struct}
 use Rattle.rules.specs.Module.{Module}
 use Rattle.rules.specs.Flat.{Layout, none, empty, packed, beside, copiesOf, copies, subLayout, flatWith, fieldsFrom, fieldsWith, layouts, flat, structFlat, size}
+use Rattle.layout.specs.Prims.{size-copiesOf, length-layouts}
 use Rattle.typing.specs.Lists.{getD-left, getD-last, getD-past}
 use Rattle.typing.specs.Types.{Deep, deep-int, deep-ptr, deep-arr, deep-struct, width-small, DeepModule}
-
-pub copiesOf-size : {k : RegionKind} (n : ℕ) (L : Layout k) → copiesOf n L .size ≡ n * L .size
-unfolding copiesOf
-copiesOf-size zero L = sym (zero-mul (L .size))
-copiesOf-size (suc n) L = ap (λ s. L .size + s) (copiesOf-size n L) ∙ omega (arith, suc-mul n (L .size))
 
 copies-some : {k : RegionKind} (n : ℕ) (L : Layout k) → 1 ≤ n → 0 < L .size → 0 < copies n L .size
 unfolding copies
 copies-some {k} n L h l = go (leb (n * L .size) sizeLimit)
   where
     go : (b : Bool) → 0 < (cond b (copiesOf n L) (none {k = k})) .size
-    go true = let e = copiesOf-size n L in let p = mul-le-mul-left n l in omega (arith, e, p)
+    go true = let e = size-copiesOf n L in let p = mul-le-mul-left n l in omega (arith, e, p)
     go false = omega arith
 
 beside-some : (L M : Layout variable) → 0 < L .size + M .size → 0 < beside L M .size
@@ -58,14 +54,6 @@ unfolding fieldsWith fieldsFrom
 fields-some ls [] l h e = absurd (omega arith)
 fields-some ls (T ∷ Ts) l h (more d e) = from-some ls (beside empty (flatWith ls T)) Ts (beside-some empty (flatWith ls T) (omega (arith, flat-some ls T l d)))
 
-pub layouts-length : (m : Module) (n : ℕ) → length (layouts m n) ≡ n
-unfolding layouts
-layouts-length m zero = refl
-layouts-length m (suc n) =
-    let e = layouts-length m n in
-    let a = length-append (layouts m n) (fieldsWith (layouts m n) (m .fields n) ∷ []) in
-    omega (arith, a, e)
-
 module _ (m : Module) (d : DeepModule m) where
   layouts-some : (n : ℕ) → n ≤ m .structs → Filled (layouts m n)
   unfolding layouts
@@ -73,12 +61,12 @@ module _ (m : Module) (d : DeepModule m) where
   layouts-some (suc n) h N = go (decLt N n) (ℕ-discrete N n) (layouts-some n (omega arith))
     where
       go : Dec (N < n) → Dec (N ≡ n) → Filled (layouts m n) → 0 < getD (layouts m n ++ fieldsWith (layouts m n) (m .fields n) ∷ []) N none .size
-      go (yes l) e ih = rw (getD-left none (layouts m n) (fieldsWith (layouts m n) (m .fields n) ∷ []) N (omega (arith, layouts-length m n))) (ih N)
-      go (no l) (yes e) ih = rw (getD-last none (layouts m n) (fieldsWith (layouts m n) (m .fields n)) N (e ∙ sym (layouts-length m n)))
+      go (yes l) e ih = rw (getD-left none (layouts m n) (fieldsWith (layouts m n) (m .fields n) ∷ []) N (omega (arith, length-layouts m n))) (ih N)
+      go (no l) (yes e) ih = rw (getD-last none (layouts m n) (fieldsWith (layouts m n) (m .fields n)) N (e ∙ sym (length-layouts m n)))
           (fields-some (layouts m n) (m .fields n) ih (d .someFields n (omega arith)) (d .fields n))
       go (no l) (no e) ih =
           rw (getD-past none (layouts m n ++ fieldsWith (layouts m n) (m .fields n) ∷ []) N
-          (omega (arith, length-append (layouts m n) (fieldsWith (layouts m n) (m .fields n) ∷ []), layouts-length m n))) (omega arith)
+          (omega (arith, length-append (layouts m n) (fieldsWith (layouts m n) (m .fields n) ∷ []), length-layouts m n))) (omega arith)
 
   -- a deep type has a byte, and so has a struct
   pub some-size : {T : Tree variable} → Deep m T → 0 < size m T
