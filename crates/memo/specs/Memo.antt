@@ -24,7 +24,8 @@ use Rattle.layout.specs.Runs.{same-run}
 use Rattle.terms.specs.Heads.{placeOf, treeAt}
 use Rattle.terms.specs.Extents.{Terms}
 use Rattle.terms.specs.ExtentLaws.{module-term}
-use Rattle.terms.specs.Compare.{under, placesSame, does-yes}
+use Rattle.terms.specs.Compare.{under, does-yes}
+use Rattle.equality.specs.Equal.{placesSame}
 use Rattle.runs.specs.Runs.{RunAtIs, InPageIs, page-none, page-past, page-in, size-under}
 
 -- m remembers at which distances of term u under p the run of term t under q stands: 1 where it does, another number where not

@@ -49,7 +49,7 @@ fn run_found(
     ensures { λ r. ⌜ RunAtIs (now (f .entry)) u (now (p .entry)) o t (now (q .entry)) r ⌝ }
 {
     if o == 0 {
-        if terms::same_places(f, terms::place_of(n, u), p, terms::place_of(n, t), q) {
+        if equality::same_places(f, terms::place_of(n, u), p, terms::place_of(n, t), q) {
             return true;
         }
     }

@@ -16,7 +16,8 @@ use Rattle.rules.specs.Decode.{moduleOf}
 use Rattle.rules.specs.State.{view, pageOwner, memoryByte, memoryNumber}
 use Rattle.rules.specs.Heap.{HeapTyping, Stands, decStands, Value}
 use Rattle.state.specs.Reads.{memory-lt}
-use Rattle.terms.specs.Compare.{byteUnder, under, under-is, placesSame}
+use Rattle.terms.specs.Compare.{byteUnder, under, under-is}
+use Rattle.equality.specs.Equal.{placesSame}
 use Rattle.terms.specs.Readers.{Inner}
 use Rattle.terms.specs.Heads.{placeOf}
 use Rattle.terms.specs.Extents.{Small, Terms}

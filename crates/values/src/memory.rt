@@ -153,7 +153,7 @@ pub fn aim_at(
     let old = last.to;
     let here = terms::place_of(terms, t);
     let there = terms::place_of(terms, last.t);
-    if last.known & terms::same_places(f, there, &old, here, &to) {
+    if last.known & equality::same_places(f, there, &old, here, &to) {
         return last;
     }
     let target = target_of(f, starts, functions, terms, structs, tab, s, n, to, t);

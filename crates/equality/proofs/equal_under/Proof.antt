@@ -1,15 +1,16 @@
--- `terms::equal_under` meets its contract: a term under the identity is itself.
+-- `equality::equal_under` meets its contract: a term under the identity is itself.
 
 use Rattle.words.specs.Decide.{does}
 use Rattle.rules.specs.Decode.{moduleOf}
 use Rattle.rules.specs.Types.{variable, Tree, sub, decTree}
-use Rattle.terms.specs.Compare.{under, term-identity}
+use Rattle.terms.specs.Compare.{under}
+use Rattle.equality.specs.Equal.{term-identity}
 use borrow.Author.Needs.{needs}
 use denote.Ref.{now}
 use mathlib.Core.Path.{ap, _∙_}
 use native.Mathlib.Omega.{arith}
-use Rattle.terms.proofs.equal_under.Statement.{statement}
-use Rattle.terms.proofs.equal_under.Tie as tie
+use Rattle.equality.proofs.equal_under.Statement.{statement}
+use Rattle.equality.proofs.equal_under.Tie as tie
 
 returns : tie.Need-returns
 returns c = let a = c .before .before .before .before .before .args in

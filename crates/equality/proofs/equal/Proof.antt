@@ -1,15 +1,16 @@
--- `terms::equal` meets its contract: a term is equal to itself, and under the identity it is itself.
+-- `equality::equal` meets its contract: a term is equal to itself, and under the identity it is itself.
 
 use Rattle.words.specs.Decide.{does}
 use Rattle.rules.specs.Types.{variable, Tree, decTree}
-use Rattle.terms.specs.Compare.{term-identity, does-yes}
+use Rattle.terms.specs.Compare.{does-yes}
+use Rattle.equality.specs.Equal.{term-identity}
 use Rattle.rules.specs.Decode.{moduleOf}
 use borrow.Author.Needs.{needs}
 use denote.Ref.{now}
 use mathlib.Core.Path.{refl, sym, ap₂, _∙_}
 use native.Mathlib.Omega.{arith}
-use Rattle.terms.proofs.equal.Statement.{statement}
-use Rattle.terms.proofs.equal.Tie as tie
+use Rattle.equality.proofs.equal.Statement.{statement}
+use Rattle.equality.proofs.equal.Tie as tie
 
 returns : tie.Need-returns
 returns c = let a = c .before .before .args in rw (c .if1 .taken) (sym (does-yes (decTree (moduleOf (now (a .f)) .term (a .b)) (moduleOf (now (a .f)) .term (a .b))) refl))

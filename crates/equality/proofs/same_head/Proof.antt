@@ -1,9 +1,9 @@
--- `terms::same_head` meets its contract: each number that is compared is the head's.
+-- `equality::same_head` meets its contract: each number that is compared is the head's.
 
-use Rattle.terms.specs.Compare.{headsSame}
+use Rattle.equality.specs.Equal.{headsSame}
 use borrow.Author.Needs.{needs}
-use Rattle.terms.proofs.same_head.Statement.{statement}
-use Rattle.terms.proofs.same_head.Tie as tie
+use Rattle.equality.proofs.same_head.Statement.{statement}
+use Rattle.equality.proofs.same_head.Tie as tie
 
 returns : tie.Need-returns
 unfolding headsSame

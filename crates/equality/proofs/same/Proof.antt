@@ -1,13 +1,13 @@
--- `terms::same` meets its contract: the terms stand at their places.
+-- `equality::same` meets its contract: the terms stand at their places.
 
 use Prim.Native.Nat.{ℕ}
 use Rattle.rules.specs.Types.{variable, live}
-use Rattle.terms.specs.Compare.{placesSame, places-terms}
+use Rattle.equality.specs.Equal.{placesSame, places-terms}
 use borrow.Author.Needs.{needs}
 use denote.Ref.{now}
 use mathlib.Core.Path.{ap₂, _∙_}
-use Rattle.terms.proofs.same.Statement.{statement}
-use Rattle.terms.proofs.same.Tie as tie
+use Rattle.equality.proofs.same.Statement.{statement}
+use Rattle.equality.proofs.same.Tie as tie
 
 returns : tie.Need-returns
 returns c = let a = c .before .before .before .before .before .before .args in (
