@@ -15,7 +15,7 @@ use Rattle.rules.specs.Verdict.{termStage, structStage, functionStage, instruct
 use Rattle.rules.specs.declared.Verdict.{Verdict}
 use Rattle.rules.specs.declared.Verdict.the-variants as verdicts
 use Rattle.typing.specs.Stages.{verdict-append}
-use Rattle.records.specs.Outcome.{andThen, verdict-outcome}
+use Rattle.framing.specs.Outcome.{andThen, verdict-outcome}
 use Rattle.instructions.specs.Scan.{typedFrom}
 
 -- one stage, and v behind it

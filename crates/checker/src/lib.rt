@@ -10,7 +10,7 @@ ghost use Rattle.functions.specs.Functions.{Known, functionAt};
 ghost use Rattle.instructions.specs.Plain.{Tight};
 ghost use Rattle.instructions.specs.Scan.{typedFrom};
 ghost use Rattle.checker.specs.Rules.{lastRules, typedRules, functionRules, structRules, termRules};
-use records::framing::Outcome;
+use framing::Outcome;
 use rules::Verdict;
 use walk::limits::CALLEES;
 

@@ -12,9 +12,9 @@ use Rattle.rules.specs.Decision.{decTyped}
 use Rattle.rules.specs.Decode.{moduleOf, startOf}
 use Rattle.rules.specs.Verdict.{instructionTest, instructionStage}
 use Rattle.functions.specs.Functions.{functionAt, function-at, instructionIn, placeIn, place-in, code-at}
-use Rattle.records.specs.Outcome.{outcome, passes, refuses}
-use Rattle.records.specs.declared.framing.Outcome.{Outcome}
-use Rattle.records.specs.declared.framing.Outcome.the-variants.{Passed, Refused}
+use Rattle.framing.specs.Outcome.{outcome, passes, refuses}
+use Rattle.framing.specs.declared.Outcome.{Outcome}
+use Rattle.framing.specs.declared.Outcome.the-variants.{Passed, Refused}
 
 -- the test of instruction i of the function with record 7 at h, which stands at record r
 pub test-at : (f : Bytes) (h i r : ℕ) → r ≡ placeIn f h i → does (decTyped (moduleOf f) (functionAt f h) (instructionIn f r)) ≡ instructionTest (moduleOf f) (functionAt f h) i

@@ -49,7 +49,7 @@ fn call_region(f: &[u8], n: usize, h: usize, e: usize, to: &[u8], x: Record, i: 
     let v = terms::digit(x.d as usize, i);
     let s = region_term(f, h, v);
     let t = region_term(f, e, i);
-    in_scope(f, h, v) & terms::equal_under(f, n, s, t, to)
+    in_scope(f, h, v) & equality::equal_under(f, n, s, t, to)
 }
 
 fn call_regions(f: &[u8], n: usize, h: usize, e: usize, to: &[u8], x: Record) -> bool
@@ -77,7 +77,7 @@ fn call_argument(f: &[u8], n: usize, h: usize, e: usize, to: &[u8], y: Record, i
     let a = walk::file::entry_of(y, i);
     let s = register_term(f, h, a);
     let t = register_term(f, e, i);
-    is_register(f, h, a) & terms::equal_under(f, n, s, t, to)
+    is_register(f, h, a) & equality::equal_under(f, n, s, t, to)
 }
 
 fn call_arguments(f: &[u8], n: usize, h: usize, e: usize, to: &[u8], y: Record) -> bool
@@ -106,7 +106,7 @@ fn call_result(f: &[u8], n: usize, h: usize, e: usize, to: &[u8], x: Record) -> 
     let u = walk::file::return_of(z);
     let a = x.a as usize;
     let t = register_term(f, h, a);
-    is_register(f, h, a) & terms::equal_under(f, n, t, u, to)
+    is_register(f, h, a) & equality::equal_under(f, n, t, u, to)
 }
 
 // What a call asks of its result, its regions and its arguments.

@@ -65,7 +65,7 @@ pub fn returned(f: &[u8], n: usize, h: usize, a: usize) -> bool
     let x = walk::file::record_at(f, h);
     let u = walk::file::return_of(x);
     let t = register_term(f, h, a);
-    is_register(f, h, a) & terms::equal(f, n, t, u)
+    is_register(f, h, a) & equality::equal(f, n, t, u)
 }
 
 // The instruction at record r, with this record, keeps the rule of its kind.

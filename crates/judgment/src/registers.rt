@@ -71,7 +71,7 @@ pub fn same_types(f: &[u8], n: usize, h: usize, a: usize, b: usize) -> bool
 {
     let t = register_term(f, h, a);
     let u = register_term(f, h, b);
-    is_register(f, h, a) & (is_register(f, h, b) & terms::equal(f, n, t, u))
+    is_register(f, h, a) & (is_register(f, h, b) & equality::equal(f, n, t, u))
 }
 
 // p points to the type of v.
@@ -83,7 +83,7 @@ pub fn points_to(f: &[u8], n: usize, h: usize, p: usize, v: usize) -> bool
     let u = register_term(f, h, v);
     let target = terms::inner(f, n, t);
     (is_register(f, h, p) & is_register(f, h, v))
-        & ((terms::form(f, n, t) == 2) & terms::equal(f, n, target, u))
+        & ((terms::form(f, n, t) == 2) & equality::equal(f, n, target, u))
 }
 
 // a and b are pointers into one region.

@@ -1,7 +1,7 @@
 -- Laws of type terms: substitution (composition, agreement, closing), what it keeps (width, primitives, regions
 -- used), good trees under it. Assumes nothing.
 use mathlib.Core.Path.{_≡_, refl, ap, ap₂}
-use mathlib.Core.List.{List, [], map}
+use mathlib.Core.List.{List, map}
 use Prim.Native.Nat.{ℕ, _<_}
 use lib.ListN.{length}
 use Rattle.words.specs.Decide.{Each}

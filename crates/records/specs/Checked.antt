@@ -14,9 +14,10 @@ use Rattle.rules.specs.Verdict.{recordRules, moduleRules, verdictOf}
 use Rattle.walk.specs.Tables.{tablesOf, noTables}
 use Rattle.walk.specs.declared.tables.Tables.{Tables}
 use Rattle.records.specs.declared.Checked.{Checked}
-use Rattle.records.specs.declared.framing.Outcome.{Outcome}
-use Rattle.records.specs.declared.framing.Outcome.the-variants.{Passed, Refused}
-use Rattle.records.specs.Outcome.{framingOf, recordsOf, andThen, verdict-framing, verdict-records, passed-all}
+use Rattle.framing.specs.declared.Outcome.{Outcome}
+use Rattle.framing.specs.declared.Outcome.the-variants.{Passed, Refused}
+use Rattle.framing.specs.Outcome.{framingOf, andThen, verdict-framing, passed-all}
+use Rattle.records.specs.Outcome.{recordsOf, verdict-records}
 
 -- after the framing: a file that is refused for it has no tables
 abbrev pub checkedAfter : Outcome → Bytes → Checked

@@ -1,5 +1,5 @@
-// Refusals 1 to 4: framing, and each record against what the walk over the file says that it is to be. Each contract is an equation with a
-// definition of rules' specs/ or of specs/, for every byte slice.
+// Refusal 4: each record against what the walk over the file says that it is to be; and refusals 1 to 4 together. Each contract is an
+// equation with a definition of rules' specs/ or of specs/, for every byte slice.
 ghost use mathlib.Core.Path.{_≡_};
 ghost use Prim.Native.Nat.{_+_, _≤_};
 ghost use Rattle.words.specs.First.{first};
@@ -13,8 +13,6 @@ use framing::Outcome;
 use walk::tables::Tables;
 
 pub mod fits;
-pub mod framing;
-pub mod operands;
 
 // The first place at which refusal 4 is due, where the walk is in the filler before record `from`, and no record before it is at fault.
 fn filler_fault(f: &[u8], n: usize, from: usize) -> usize

@@ -28,7 +28,8 @@ use Rattle.layout.specs.Flat.{distance-zero, size-sub}
 use Rattle.layout.specs.Runs.{run-matches, matches-run, Rising, flat-rising, nth-sub, distance-sub, position-sub, position-is}
 use Rattle.terms.specs.Heads.{placeOf, treeAt}
 use Rattle.terms.specs.Extents.{Counted}
-use Rattle.terms.specs.Compare.{under, under-is, sub-same, does-map, does-both, does-nat, placesSame}
+use Rattle.terms.specs.Compare.{under, under-is, sub-same, does-map, does-both, does-nat}
+use Rattle.equality.specs.Equal.{placesSame}
 use Rattle.runs.specs.Table.{termLayout, Table}
 use Rattle.runs.specs.TableLaws.{layout-term}
 use Rattle.runs.specs.Positions.{Keeps, Agree, under-agree, placedOf, Found}

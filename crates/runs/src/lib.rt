@@ -269,7 +269,7 @@ fn same_prim(f: &[u8], x: Primitive, from: usize, y: Primitive) -> bool
     if x_off < from {
         return false;
     }
-    (x_off - from == y_off) & terms::same_places(f, x_place, &x_to, y_place, &y_to)
+    (x_off - from == y_off) & equality::same_places(f, x_place, &x_to, y_place, &y_to)
 }
 
 // Whether the `many` primitives of the term at place b under q are those of the term at place a under p, from position d on.

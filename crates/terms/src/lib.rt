@@ -8,11 +8,11 @@ ghost use Rattle.rules.specs.File.{recordOf, entryOf};
 ghost use Rattle.rules.specs.Decode.{moduleOf};
 ghost use Rattle.rules.specs.Flat.{flat, structFlat};
 ghost use Rattle.words.specs.Decide.{does};
-ghost use Rattle.rules.specs.Types.{variable, live, int, sub, form, numberOf, regionOf, args, decTree, decUses, decPrimitive};
+ghost use Rattle.rules.specs.Types.{int, form, numberOf, regionOf, args, decTree, decUses, decPrimitive};
 ghost use Rattle.terms.specs.Heads.{digit, argsOf, placeOf, headFrom, headOf, formNo, mainNo, innerNo, regionNo, argsNo, wordNo};
 ghost use Rattle.terms.specs.HeadLaws.{Fair, Narrow};
 ghost use Rattle.terms.specs.Extents.{Terms, Counted, cap, extentOf, over, plus, times, Small, termExtent, structExtent};
-ghost use Rattle.terms.specs.Compare.{byteUnder, under, argsSame, headsSame, placesSame, Identity};
+ghost use Rattle.terms.specs.Compare.{byteUnder};
 ghost use Rattle.terms.specs.Bounds.{bound, boundOf, headBound};
 ghost use Rattle.terms.specs.Readers.{Reads, Inner, formBy};
 use rules::Record;
@@ -63,7 +63,7 @@ pub fn record_at(f: &[u8], r: usize) -> Record
     }
 }
 
-fn wide(x: u8) -> usize
+pub fn wide(x: u8) -> usize
     ensures { λ r. ⌜ (r ≡ x) × (r < 256) ⌝ }
 {
     x as usize
@@ -310,14 +310,7 @@ pub fn extent_of_struct(f: &[u8], n: usize, k: usize, number: usize) -> Extent
     }
 }
 
-// ---- terms under substitutions
-
-// The region that stands for variable v: 255, nowhere, where the substitution has none.
-fn region(to: &[u8], v: usize) -> usize
-    ensures { λ r. ⌜ r ≡ byteUnder (now (to .entry)) v ⌝ }
-{
-    if v < to.len() { wide(to[v]) } else { 255 }
-}
+// ---- a region map
 
 // The live region that a region map has for a variable.
 pub fn live_of(map: &[u8], v: Variable) -> Live
@@ -329,93 +322,6 @@ pub fn live_of(map: &[u8], v: Variable) -> Live
     } else {
         Live(255)
     }
-}
-
-// Whether the first n regions that d and e hold are the same, under p and under q.
-fn same_args(p: &[u8], d: usize, q: &[u8], e: usize, n: usize) -> bool
-    ensures { λ r. ⌜ r ≡ argsSame (now (p .entry)) d (now (q .entry)) e n ⌝ }
-{
-    let mut i = 0;
-    while i < n {
-        if region(p, digit(d, i)) != region(q, digit(e, i)) {
-            return false;
-        }
-        i += 1;
-    }
-    true
-}
-
-// Whether two heads are the same, but for what is inside.
-fn same_head(p: &[u8], x: Head, q: &[u8], y: Head) -> bool
-    ensures { λ r. ⌜ r ≡ headsSame (now (p .entry)) x (now (q .entry)) y ⌝ }
-{
-    let form = form_no(x);
-    let count = args_no(x);
-    ((form == form_no(y)) & (main_no(x) == main_no(y)))
-        & ((!(form == 2) | (region(p, region_no(x)) == region(q, region_no(y))))
-            & ((count == args_no(y)) & same_args(p, word_no(x), q, word_no(y), count)))
-}
-
-// Whether the terms at places a and b are equal, under p and under q: both chains are walked until nothing is inside.
-pub fn same_places(f: &[u8], a: usize, p: &[u8], b: usize, q: &[u8]) -> bool
-    ensures { λ r. ⌜ (r ≡ placesSame variable (now (f .entry)) a (now (p .entry)) b (now (q .entry))) × (r ≡ placesSame live (now (f .entry)) a (now (p .entry)) b (now (q .entry))) ⌝ }
-{
-    let mut i = a;
-    let mut j = b;
-    while (i > 0) | (j > 0) {
-        let x = head_of(f, i);
-        let y = head_of(f, j);
-        if same_head(p, x, q, y) {
-            i = inner_no(x);
-            j = inner_no(y);
-        } else {
-            return false;
-        }
-    }
-    true
-}
-
-// Whether terms a and b are equal, under p and under q.
-pub fn same(f: &[u8], n: usize, a: usize, p: &[u8], b: usize, q: &[u8]) -> bool
-    requires { ⌜ Terms (now f) n ⌝ }
-    ensures { λ r. do let m = moduleOf (now (f .entry)) in ⌜ (r ≡ does (decTree (sub (under {k = variable} (now (p .entry))) (m .term a)) (sub (under (now (q .entry))) (m .term b)))) × (r ≡ does (decTree (sub (under {k = live} (now (p .entry))) (m .term a)) (sub (under (now (q .entry))) (m .term b)))) ⌝ }
-{
-    same_places(f, place_of(n, a), p, place_of(n, b), q)
-}
-
-// The substitution that puts each region for itself.
-fn identity() -> [u8; 256]
-    ensures { λ r. ⌜ Identity r ⌝ }
-{
-    let mut r = [255u8; 256];
-    let mut i = 0;
-    while i < 256 {
-        r[i] = i as u8;
-        i += 1;
-    }
-    r
-}
-
-// Whether terms a and b are equal as they are written.
-pub fn equal(f: &[u8], n: usize, a: usize, b: usize) -> bool
-    requires { ⌜ Terms (now f) n ⌝ }
-    ensures { λ r. do let m = moduleOf (now (f .entry)) in ⌜ r ≡ does (decTree (m .term a) (m .term b)) ⌝ }
-{
-    // most terms that are compared are one and the same
-    if a == b {
-        return true;
-    }
-    let id = identity();
-    same(f, n, a, &id, b, &id)
-}
-
-// Whether term a, as it is written, is term b with the regions q put in: the types of a call.
-pub fn equal_under(f: &[u8], n: usize, a: usize, b: usize, q: &[u8]) -> bool
-    requires { ⌜ Terms (now f) n ⌝ }
-    ensures { λ r. do let m = moduleOf (now (f .entry)) in ⌜ r ≡ does (decTree (m .term a) (sub (under (now (q .entry))) (m .term b))) ⌝ }
-{
-    let id = identity();
-    same(f, n, a, &id, b, q)
 }
 
 // ---- regions used

@@ -2,22 +2,22 @@
 use mathlib.Core.Path.{_≡_, refl, sym, ap, subst, _∙_}
 use mathlib.Core.Bool.{Bool, true, false, _&&_}
 use mathlib.Core.Logic.{_≢_, _⊎_, inl, inr, ⊎-elim}
-use Prim.Native.Nat.{ℕ, zero, suc, _+_, _-_, _*_, _^_, _/_, _<_, _≤_}
+use Prim.Native.Nat.{ℕ, zero, suc, _+_, _-_, _*_, _^_, _/_, _<_}
 use native.Mathlib.Nat.{pow-suc}
 use native.Mathlib.Omega.{arith}
-use lib.ListN.{length, replicate}
+use lib.ListN.{replicate}
 use Rattle.words.specs.Bytes.{Bytes, AllBytes}
-use Rattle.words.specs.ByteLaws.{length-listOf}
 use Rattle.words.specs.Choose.{true-not-false, both}
-use Rattle.rules.specs.Limits.{pageBytes, mostRegions}
+use Rattle.rules.specs.Limits.{pageBytes}
 use Rattle.rules.specs.Types.{variable, live, Variable, Region, Tree, int, ptr, arr, struct, form, inner, regionOf, width, sub}
 use Rattle.rules.specs.Module.{Module}
 use Rattle.rules.specs.Flat.{flat}
 use Rattle.rules.specs.Decode.{moduleOf}
-use Rattle.rules.specs.State.{view, pageOwner, memoryByte, memoryNumber, frameMap}
+use Rattle.rules.specs.State.{view, pageOwner, memoryByte, memoryNumber}
 use Rattle.rules.specs.Heap.{HeapTyping, Stands, decStands, Value}
 use Rattle.state.specs.Reads.{memory-lt}
-use Rattle.terms.specs.Compare.{byteUnder, under, under-is, placesSame}
+use Rattle.terms.specs.Compare.{byteUnder, under, under-is}
+use Rattle.equality.specs.Equal.{placesSame}
 use Rattle.terms.specs.Readers.{Inner}
 use Rattle.terms.specs.Heads.{placeOf}
 use Rattle.terms.specs.Extents.{Small, Terms}
@@ -28,8 +28,8 @@ use Rattle.stack.specs.Tells.{Tells, tells-map, tells-yes, does-tells}
 use Rattle.objects.specs.Homes.{HomeIs}
 use Rattle.objects.specs.declared.Home.{Home}
 use Rattle.runs.specs.Maps.{Narrow, mapList, under-close}
-use Rattle.values.specs.Value.{typingOf}
-use Rattle.values.specs.Memo.{SizeIs, Remembers, Forgotten, remembers-none, remembers-nothing, same-tree}
+use Rattle.registers.specs.Value.{typingOf}
+use Rattle.memo.specs.Memo.{SizeIs, Remembers, Forgotten, remembers-none, remembers-nothing, same-tree}
 use Rattle.values.specs.declared.memory.Target.{Target}
 use Rattle.values.specs.declared.memory.Aim.{Aim}
 
@@ -119,11 +119,6 @@ module _ {f s : Bytes} {n : ℕ} {to : Bytes} {t x : ℕ} {g : Target} (is : Tar
       tells-map (λ z. record { is = z }) (λ z. z .is)
       (pointer (moduleOf f) (typingOf f s n) (under to) (view s .memory) x (moduleOf f .term t) (is .pointer)
       (tells-map (λ z. inr z) (⊎-elim (λ z. absurd (d (ev ∙ z))) (λ z. z)) (rw (is .run, q, ev) at w)))
-
--- a map is short
-pub map-short : (s : Bytes) (k : ℕ) {map : Bytes} → map ≡ mapList s k → length map ≤ 8
-unfolding mapList
-map-short s k e = let l = ap (λ (x : Bytes). length x) e ∙ length-listOf (frameMap s k) mostRegions in omega arith
 
 -- where a run stands, its regions given as bytes
 pub stands-under : {f s : Bytes} {n r : ℕ} {h : Home} → HomeIs f s n r h → (t : ℕ) (q : Bytes) {a o : ℕ} {p : Bytes} {b : Bool} → Narrow f → h .frame ≢ 0

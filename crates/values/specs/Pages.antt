@@ -36,7 +36,8 @@ use Rattle.stack.specs.Tells.{Tells, tells-map, tells-yes, tells-not, tells-eq}
 use Rattle.objects.specs.Homes.{regionTree, HomeIs, size-some}
 use Rattle.objects.specs.Ends.{PlacesIn}
 use Rattle.objects.specs.declared.Home.{Home}
-use Rattle.values.specs.Memory.{PrimitiveAt, primitive-same, integer-at, map-short}
+use Rattle.registers.specs.Value.{map-short}
+use Rattle.values.specs.Memory.{PrimitiveAt, primitive-same, integer-at}
 use Rattle.values.specs.Passes.{AllPrimitives}
 use Rattle.values.specs.declared.pages.Objects.{Objects}
 

@@ -12,7 +12,7 @@ use Rattle.rules.specs.StateTest.{PageOk, Passes, decPasses}
 use Rattle.stack.specs.Tells.{Tells, tells-map, tells-no, told-yes, told-no, tells-does}
 use Rattle.shape.specs.Shape.{Shape}
 use Rattle.objects.specs.Ends.{AllEnds}
-use Rattle.values.specs.Registers.{AllRegisters}
+use Rattle.registers.specs.Registers.{AllRegisters}
 
 -- each primitive in each owned page is a value of its type
 pub record AllPrimitives (f s : Bytes) : Type 0 where

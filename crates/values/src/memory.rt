@@ -11,11 +11,11 @@ ghost use Rattle.stack.specs.Tells.{Tells};
 ghost use Rattle.stack.specs.Facts.{Known};
 ghost use Rattle.runs.specs.Maps.{Narrow, mapList};
 ghost use Rattle.values.specs.Memory.{PrimitiveAt, TargetIs, AimIs, AimsAt};
-ghost use Rattle.values.specs.Memo.{Remembers};
-use crate::map_of;
-use crate::memo::forget;
-use crate::memo::stands_known;
+ghost use Rattle.memo.specs.Memo.{Remembers};
+use memo::forget;
+use memo::stands_known;
 use objects::home_of;
+use registers::map_of;
 use state::Machine;
 use state::total::memory_byte;
 use terms::Live;
@@ -153,7 +153,7 @@ pub fn aim_at(
     let old = last.to;
     let here = terms::place_of(terms, t);
     let there = terms::place_of(terms, last.t);
-    if last.known & terms::same_places(f, there, &old, here, &to) {
+    if last.known & equality::same_places(f, there, &old, here, &to) {
         return last;
     }
     let target = target_of(f, starts, functions, terms, structs, tab, s, n, to, t);

@@ -1,8 +1,8 @@
 -- `checker::typed_rules` meets its contract: refusal 7's outcome, and refusal 8 behind it.
 use mathlib.Core.Path.{sym, ap, _∙_}
 use denote.Ref.{now}
-use Rattle.records.specs.declared.framing.Outcome.{Outcome}
-use Rattle.records.specs.Outcome.{andThen}
+use Rattle.framing.specs.declared.Outcome.{Outcome}
+use Rattle.framing.specs.Outcome.{andThen}
 use Rattle.instructions.specs.Scan.{typedFrom}
 use Rattle.checker.specs.Rules.{typedRules, lastRules}
 use Rattle.checker.specs.Ranges.{ranged, tight}

@@ -1,9 +1,9 @@
 -- `checker::verdict` meets its contract: refusals 1 to 4, and those of 5 to 8 behind them.
 use mathlib.Core.Path.{_≡_, sym, ap, _∙_}
 use denote.Ref.{now}
-use Rattle.records.specs.declared.framing.Outcome.{Outcome}
-use Rattle.records.specs.declared.framing.Outcome.the-variants as outcomes
-use Rattle.records.specs.Outcome.{andThen}
+use Rattle.framing.specs.declared.Outcome.{Outcome}
+use Rattle.framing.specs.declared.Outcome.the-variants as outcomes
+use Rattle.framing.specs.Outcome.{andThen}
 use Rattle.records.specs.declared.Checked.{Checked}
 use Rattle.rules.specs.Verdict.{moduleRules}
 use Rattle.records.specs.Checked.{checkedOf, checked-verdict, checked-tables, checked-fits, checked-length}

@@ -1,7 +1,7 @@
 -- `values::memory::pointer_ok` meets its contract: zero, or where its run stands. Assumes nothing.
 use Rattle.stack.specs.Tells.{tells-yes, tells-no}
-use Rattle.values.specs.Value.{stands-none}
-use Rattle.values.specs.Memory.{pointer-zero, pointer-at, map-short, stands-under}
+use Rattle.registers.specs.Value.{stands-none, map-short}
+use Rattle.values.specs.Memory.{pointer-zero, pointer-at, stands-under}
 use borrow.Author.Needs.{needs}
 use Rattle.values.proofs.memory.pointer_ok.Statement.{statement}
 use Rattle.values.proofs.memory.pointer_ok.Tie as tie

@@ -3,7 +3,7 @@ use borrow.Author.Needs.{needs}
 use native.Mathlib.Omega.{arith}
 use Prim.Native.Nat.{ℕ, _-_, _<_, _≤_}
 use Rattle.stack.specs.Tells.{scan-none, scan-more, scan-broken, scan-ended}
-use Rattle.values.specs.Memo.{Remembers}
+use Rattle.memo.specs.Memo.{Remembers}
 use Rattle.values.specs.Pages.{OwnedPlaces}
 use Rattle.values.proofs.pages.all_places.Statement.{statement}
 use Rattle.values.proofs.pages.all_places.Tie as tie

@@ -3,7 +3,7 @@ use borrow.Author.Needs.{needs}
 use native.Mathlib.Omega.{arith}
 use Prim.Native.Nat.{ℕ, _-_, _<_, _≤_}
 use Rattle.stack.specs.Tells.{scan-none, scan-more, scan-broken}
-use Rattle.values.specs.Memo.{Remembers}
+use Rattle.memo.specs.Memo.{Remembers}
 use Rattle.values.specs.Pages.{PlaceOk, places-ended}
 use Rattle.values.proofs.pages.places_ok.Statement.{statement}
 use Rattle.values.proofs.pages.places_ok.Tie as tie

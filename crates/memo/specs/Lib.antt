@@ -1,0 +1,2 @@
+-- What is remembered of runs.
+pub mod Memo

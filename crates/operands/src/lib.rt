@@ -1,0 +1,142 @@
+// The operands of an instruction, by one table, and the entries of a record. Each test is the definition of the same name in rules'
+// specs/Operands.antt and specs/Records.antt.
+ghost use mathlib.Core.Path.{_≡_};
+ghost use Prim.Native.Nat.{_-_};
+ghost use Rattle.rules.specs.File.{firstArithmetic};
+ghost use Rattle.rules.specs.Operands.{classesOf, operandFits};
+ghost use Rattle.rules.specs.Records.{slot, four, seven, loose, fourLoose, sevenLoose};
+ghost use Rattle.operands.specs.Classes.{Digits};
+use rules::Record;
+use walk::limits::FIRST_INSTRUCTION;
+
+// The classes of an operand.
+const UNUSED: usize = 0;
+
+const REGISTER: usize = 1;
+
+const FUNCTION: usize = 2;
+
+const TARGET: usize = 3;
+
+const OPERATION: usize = 4;
+
+const ANY: usize = 5;
+
+const REGIONS: usize = 6;
+
+// The last operation of kind 18.
+const LAST_OPERATION: usize = 13;
+
+// "The operand classes of kinds 16 to 34 stand in one table": for each kind from 16 on the classes of a, b, c and d, an octal digit each, a's
+// the lowest.
+const KINDS: usize = 19;
+
+const CLASSES: [u16; KINDS] = [
+    0o5001,
+    0o0011,
+    0o4111,
+    0o0011,
+    0o0011,
+    0o0011,
+    0o0011,
+    0o5011,
+    0o0111,
+    0o0011,
+    0o0011,
+    0o0001,
+    0o0001,
+    0o0101,
+    0o0010,
+    0o3000,
+    0o3001,
+    0o6021,
+    0o0001,
+];
+
+fn wide(x: u16) -> usize
+    ensures { λ n. ⌜ n ≡ x ⌝ }
+{
+    x as usize
+}
+
+// Where a kind stands in the table. (One below 16 has the row of 16, as in the definition.)
+fn row_of(kind: u8) -> usize
+    ensures { λ i. ⌜ i ≡ kind - firstArithmetic ⌝ }
+{
+    if kind <= FIRST_INSTRUCTION {
+        0
+    } else {
+        (kind - FIRST_INSTRUCTION) as usize
+    }
+}
+
+// The classes of a kind's operands, an octal digit each. (Above 34 all are unused.)
+pub fn classes(kind: u8) -> usize
+    ensures { λ n. ⌜ Digits n (classesOf kind) ⌝ }
+{
+    let i = row_of(kind);
+    if i < KINDS { wide(CLASSES[i]) } else { 0 }
+}
+
+pub fn operand_fits(
+    class: usize,
+    v: usize,
+    registers: usize,
+    instructions: usize,
+    function_there: bool,
+    regions_right: bool,
+) -> bool
+    ensures { λ b. ⌜ b ≡ operandFits class v registers instructions «function_there» «regions_right» ⌝ }
+{
+    (((class == UNUSED) & (v == 0)) | ((class == REGISTER) & (v < registers)))
+        | ((((class == FUNCTION) & function_there) | ((class == TARGET) & (v < instructions)))
+            | (((class == OPERATION) & (v <= LAST_OPERATION))
+                | ((class == ANY) | ((class == REGIONS) & regions_right))))
+}
+
+pub fn slot(v: usize, j: usize, n: usize, lim: usize) -> bool
+    ensures { λ b. ⌜ b ≡ slot v j n lim ⌝ }
+{
+    if j < n { v < lim } else { v == 0 }
+}
+
+pub fn loose(v: usize, lim: usize) -> bool
+    ensures { λ b. ⌜ b ≡ loose v lim ⌝ }
+{
+    (v < lim) | (v == 0)
+}
+
+pub fn four(x: Record, n: usize, lim: usize) -> bool
+    ensures { λ b. ⌜ b ≡ four x n lim ⌝ }
+{
+    let d = x.d as usize;
+    (slot(d % 256, 0, n, lim) & slot(d / 256 % 256, 1, n, lim))
+        & (slot(d / 65536 % 256, 2, n, lim) & slot(d / 16777216, 3, n, lim))
+}
+
+pub fn seven(x: Record, n: usize, lim: usize) -> bool
+    ensures { λ b. ⌜ b ≡ seven x n lim ⌝ }
+{
+    let d = x.d as usize;
+    ((slot(x.a as usize, 0, n, lim) & slot(x.b as usize, 1, n, lim))
+        & (slot(x.c as usize, 2, n, lim) & slot(d % 256, 3, n, lim)))
+        & ((slot(d / 256 % 256, 4, n, lim) & slot(d / 65536 % 256, 5, n, lim))
+            & slot(d / 16777216, 6, n, lim))
+}
+
+pub fn four_loose(x: Record, lim: usize) -> bool
+    ensures { λ b. ⌜ b ≡ fourLoose x lim ⌝ }
+{
+    let d = x.d as usize;
+    (loose(d % 256, lim) & loose(d / 256 % 256, lim))
+        & (loose(d / 65536 % 256, lim) & loose(d / 16777216, lim))
+}
+
+pub fn seven_loose(x: Record, lim: usize) -> bool
+    ensures { λ b. ⌜ b ≡ sevenLoose x lim ⌝ }
+{
+    let d = x.d as usize;
+    ((loose(x.a as usize, lim) & loose(x.b as usize, lim))
+        & (loose(x.c as usize, lim) & loose(d % 256, lim)))
+        & ((loose(d / 256 % 256, lim) & loose(d / 65536 % 256, lim)) & loose(d / 16777216, lim))
+}

@@ -1,0 +1,3 @@
+-- Registers as values of their types.
+pub mod Value
+pub mod Registers
