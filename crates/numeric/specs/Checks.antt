@@ -17,8 +17,10 @@ use Rattle.terms.specs.Compare.{under}
 use Rattle.runs.specs.Runs.{StandsIs}
 use Rattle.runs.specs.Maps.{Narrow, mapList, under-close}
 use Rattle.prepared.specs.Program.{kind, registerA, registerB, regionVariable, targetTerm, regionTerm}
-use Rattle.prepared.specs.Plain.{oneType, plainStands, plainCheck}
+use Rattle.prepared.specs.Plain.{oneType, plainStands, plainCheck, plainArithmetic}
 use Rattle.prepared.specs.Ready.{Ready}
+use Rattle.effects.specs.Laws.{check-is}
+use Rattle.numeric.specs.Numbers.{read}
 
 -- the variable that the code has read
 pub variable-at : {s : Bytes} {k w x i : ℕ} → Ready s k w x → kind w ≡ 22 → i ≡ regionVariable w → i < mostRegions
@@ -37,23 +39,20 @@ stands-is f s k w x a {r} {i} {o} {u} {t} {p} {b} narrow ep er ei eo eu et is =
     ∙ ap (λ (i : ℕ). does (decStands (moduleOf f) W (close (frameMap s k) (moduleOf f .term (targetTerm x))) i a)) (er ∙ ap (frameMap s k) ei)
 
 -- the two tests
-module _ (m : Module) (s : Bytes) (k w x : ℕ) {a c : ℕ} (at : a ≡ frameRegister s k c) (ec : c ≡ registerB w) where
-  here : a ≡ frameRegister s k (registerB w)
-  here = at ∙ ap (frameRegister s k) ec
-
-  pub check-zero : a ≡ 0 → stop 32 ≡ plainCheck m (view s) k w x
+module _ (m : Module) (s : Bytes) (k w x : ℕ) (q : kind w ≡ 22) {a c : ℕ} (ec : c ≡ registerB w) (at : a ≡ frameRegister s k c) where
+  pub check-zero : a ≡ 0 → stop 32 ≡ plainArithmetic m (view s) k (kind w) w x
   unfolding plainCheck view
-  check-zero e = sym (cond-eq _ _ (sym here ∙ e))
+  check-zero e = sym (check-is m s k w x q ∙ cond-eq _ _ (sym (read s k ec at) ∙ e))
 
-  chosen : (b : Bool) → a ≢ 0 → b ≡ plainStands m (view s) k w x a → cond b (assign (registerA w) a) (stop 32) ≡ plainCheck m (view s) k w x
+  chosen : (b : Bool) → a ≢ 0 → b ≡ plainStands m (view s) k w x a → cond b (assign (registerA w) a) (stop 32) ≡ plainArithmetic m (view s) k (kind w) w x
   unfolding plainCheck view
   chosen b n e =
       ap (λ (y : Bool). cond y (assign (registerA w) a) (stop 32)) e
-      ∙ ap (λ (y : ℕ). cond (plainStands m (view s) k w x y) (assign (registerA w) y) (stop 32)) here
-      ∙ sym (cond-ne _ _ (λ z. n (here ∙ z)))
+      ∙ ap (λ (y : ℕ). cond (plainStands m (view s) k w x y) (assign (registerA w) y) (stop 32)) (read s k ec at)
+      ∙ sym (check-is m s k w x q ∙ cond-ne _ _ (λ z. n (read s k ec at ∙ z)))
 
-  pub check-stands : {d : ℕ} {b : Bool} → d ≡ registerA w → a ≢ 0 → b ≡ plainStands m (view s) k w x a → b ≡ true → assign d a ≡ plainCheck m (view s) k w x
-  check-stands {d} {b} ed n e t = ap (λ (i : ℕ). assign i a) ed ∙ sym (ap (λ (y : Bool). cond y (assign (registerA w) a) (stop 32)) t) ∙ chosen b n e
+  pub check-stands : {b : Bool} → a ≢ 0 → b ≡ plainStands m (view s) k w x a → b ≡ true → assign (registerA w) a ≡ plainArithmetic m (view s) k (kind w) w x
+  check-stands {b} n e t = sym (ap (λ (y : Bool). cond y (assign (registerA w) a) (stop 32)) t) ∙ chosen b n e
 
-  pub check-none : {b : Bool} → a ≢ 0 → b ≡ plainStands m (view s) k w x a → b ≡ false → stop 32 ≡ plainCheck m (view s) k w x
+  pub check-none : {b : Bool} → a ≢ 0 → b ≡ plainStands m (view s) k w x a → b ≡ false → stop 32 ≡ plainArithmetic m (view s) k (kind w) w x
   check-none {b} n e t = sym (ap (λ (y : Bool). cond y (assign (registerA w) a) (stop 32)) t) ∙ chosen b n e

@@ -1,3 +1,3 @@
--- Kinds 16 to 21, and kind 22.
+-- Kinds 17 to 21, and kind 22.
 pub mod Numbers
 pub mod Checks

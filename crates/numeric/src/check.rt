@@ -1,23 +1,21 @@
 // Kind 22 in code: a number becomes a pointer where a run of the pointer's target stands at that address. The types are the file's, each
 // closed by the top frame's map.
 ghost use mathlib.Core.Path.{_≡_};
-ghost use Prim.Native.Nat.{_<_};
-ghost use lib.ListN.{length};
+ghost use Prim.Native.Nat.{_+_, _<_};
+ghost use lib.ListN.{length, getD};
 ghost use Rattle.rules.specs.Limits.{mostFrames, mostRegions, stateBytes};
 ghost use Rattle.rules.specs.Decode.{moduleOf};
 ghost use Rattle.rules.specs.State.{view, frameMap};
 ghost use Rattle.runs.specs.Table.{Table};
 ghost use Rattle.runs.specs.Maps.{Narrow, mapList};
-ghost use Rattle.prepared.specs.Program.{kind};
-ghost use Rattle.prepared.specs.Plain.{plainStands, plainCheck};
+ghost use Rattle.prepared.specs.Program.{kind, registerA};
+ghost use Rattle.prepared.specs.Plain.{plainStands, plainArithmetic};
 ghost use Rattle.prepared.specs.Ready.{Ready};
-ghost use Rattle.effects.specs.Does.{Placed, Done};
+ghost use Rattle.effects.specs.Does.{Done, Here};
 use effects::Next;
-use effects::apply::assign;
 use effects::apply::stop;
 use effects::parts::region_term;
 use effects::parts::region_variable;
-use effects::parts::register_a;
 use effects::parts::register_b;
 use effects::parts::target_term;
 use effects::registers::register;
@@ -87,24 +85,24 @@ fn stands_at(
 // Register a becomes the pointer that register b holds, or the run stops with 32.
 pub fn check(
     w: u64,
-    x: u64,
     file: &[u8],
     terms: usize,
     structs: usize,
     extents: &[u64],
+    code: &[u64],
     s: &mut [u8],
     t: Machine,
 ) -> Next
-    requires { ⌜ Ready (now s) (t .frame) w x × Placed t × (kind w ≡ 22) × Table (now file) terms structs (now extents) × Narrow (now file) ⌝ }
-    ensures { λ r. ⌜ Done t (plainCheck (moduleOf (now (file .entry))) (view (now (s .entry))) (t .frame) w x) (now (s .entry)) r (now (s .exit)) ⌝ }
+    requires { ⌜ Here (now code) t w (now s) × (kind w ≡ 22) × Table (now file) terms structs (now extents) × Narrow (now file) ⌝ }
+    ensures { λ r. ⌜ Done t (registerA w) (plainArithmetic (moduleOf (now (file .entry))) (view (now (s .entry))) (t .frame) (kind w) w (getD (now (code .entry)) (t .at + 1) 0)) (now (s .entry)) r (now (s .exit)) ⌝ }
 {
-    let d = register_a(w);
     let a = register(s, t, register_b(w));
     if a == 0 {
         return stop(s, t, 32);
     }
+    let x = code[t.at + 1];
     if stands_at(w, x, file, terms, structs, extents, s, t.frame, a) {
-        assign(s, t, d, a)
+        Next::Put(a)
     } else {
         stop(s, t, 32)
     }
