@@ -1,0 +1,2 @@
+-- The match on the opcode.
+pub mod Acts
