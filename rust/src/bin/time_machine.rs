@@ -1,8 +1,9 @@
 //! Processor time of the machines on the workloads of bench/, best of several rounds in one run: the
 //! plain C interpreter, the proved machine through its C interface (with the feature `librcm`), the
 //! reference interpreter, and the same work in WebAssembly and in Lua where their programs are
-//! there. `time_machine FOLDER [ROUNDS]`. Times are divided by the module's steps; a ratio is the
-//! speed beside plain C's: above 1 is faster.
+//! there. `time_machine FOLDER [ROUNDS [COLUMNS]]`, COLUMNS being how many of these machines are
+//! timed. Times are divided by the module's steps; a ratio is the speed beside plain C's: above 1 is
+//! faster.
 
 use reference::compare::{Interface, Reference};
 use reference::host::{self, Answer};
@@ -154,7 +155,10 @@ fn main() {
     let mut words = std::env::args().skip(1);
     let folder = PathBuf::from(words.next().expect("the folder of the workloads"));
     let rounds: u32 = words.next().map_or(5, |word| word.parse().expect("a number of rounds"));
-    let columns = columns();
+    let mut columns = columns();
+    if let Some(word) = words.next() {
+        columns.truncate(word.parse().expect("a number of columns"));
+    }
     print!("{:25} {:>9}", "ns a step, best", "steps");
     for (number, (name, _)) in columns.iter().enumerate() {
         print!(" {name:>11}{}", if number > 0 { "  ratio" } else { "" });
