@@ -10,7 +10,7 @@ use native.Mathlib.Omega.{arith}
 use lib.Dec.{eqb, ltb, leb}
 use lib.ListN.{length, getD, List·getD-map}
 use lib.Seq.{take-all}
-use borrow.Author.Tests.{eq-eqb, ne-eqb, eqb-true, lt-ltb, le-ltb, le-leb, lt-leb}
+use borrow.Author.Tests.{eq-eqb, ne-eqb, eqb-true, lt-ltb, ltb-true, le-ltb, le-leb, lt-leb}
 use Rattle.words.specs.Bytes.{Bytes}
 use Rattle.words.specs.Choose.{false-by, true-not-false, lt-or-le, bool-same, and-no, does-lt, does-le}
 use Rattle.words.specs.First.{first}
@@ -252,10 +252,16 @@ run-at-is f u p keeps o t q d e r h = (
 
 -- ---- equal primitives
 
-abbrev pub SameIs : Bytes → ℕ → Bytes → ℕ → Bytes → Bool → Type 0
-SameIs f u p t q r =
-    (r ≡ does (decSame (flat (moduleOf f) (sub (under {k = variable} p) (moduleOf f .term u))) (flat (moduleOf f) (sub (under q) (moduleOf f .term t)))))
-    × (r ≡ does (decSame (flat (moduleOf f) (sub (under {k = live} p) (moduleOf f .term u))) (flat (moduleOf f) (sub (under q) (moduleOf f .term t)))))
+abbrev pub SameIs : Bytes → ℕ → ℕ → Bytes → Bool → Type 0
+SameIs f u t p r =
+    (r ≡ does (decSame (flat (moduleOf f) (sub (under {k = variable} p) (moduleOf f .term u))) (flat (moduleOf f) (sub (under p) (moduleOf f .term t)))))
+    × (r ≡ does (decSame (flat (moduleOf f) (sub (under {k = live} p) (moduleOf f .term u))) (flat (moduleOf f) (sub (under p) (moduleOf f .term t)))))
+
+-- the same primitives as itself has a layout that has some
+same-itself : {k : RegionKind} (L : Layout k) (c : ℕ) → count L ≡ c → ltb 0 c ≡ does (decSame L L)
+same-itself L c e = bool-same (ltb 0 c) (does (decSame L L))
+    (λ h. true-does (decSame L L) (record { some = let l = ltb-true 0 c h in omega arith; equal = refl }))
+    (λ h. lt-ltb 0 c (let l = does-true (decSame L L) h .some in omega arith))
 
 module _ {k : RegionKind} (L M : Layout k) where
   pub same-counts : (count L ≡ count M → ⊥) → false ≡ does (decSame L M)
@@ -288,40 +294,42 @@ pub record ElementIs (f : Bytes) (t : ℕ) (e : Extent) : Type 0 where
   pub size : form (moduleOf f .term t) ≡ 3 → e .size ≡ size (moduleOf f) (inner (moduleOf f .term t))
   pub count : e .count ≡ numberOf (moduleOf f .term t)
 
-module _ (f : Bytes) (n s : ℕ) (tab : List ℕ) (h : Table f n s tab) (u : ℕ) (p : Bytes) (kp : Keeps p) (t : ℕ) (q : Bytes) (kq : Keeps q) (a b : ℕ) (ea : a ≡ placeOf n u) (eb : b ≡ placeOf n t) (la : a ≤ n) where
-  module _ (j : RegionKind) where
-    abbrev L : Layout j
-    L = flat (moduleOf f) (sub (under {k = j} p) (moduleOf f .term u))
+module _ (f : Bytes) (n s : ℕ) (tab : List ℕ) (h : Table f n s tab) (p : Bytes) (keeps : Keeps p) where
+  -- term t under p
+  abbrev under-p : (j : RegionKind) → ℕ → Layout j
+  under-p j t = flat (moduleOf f) (sub (under {k = j} p) (moduleOf f .term t))
 
-    abbrev M : Layout j
-    M = flat (moduleOf f) (sub (under {k = j} q) (moduleOf f .term t))
+  module _ (j : RegionKind) (t a : ℕ) (e : a ≡ placeOf n t) where
+    layout-is : subLayout (under {k = j} p) (termLayout f s a) ≡ under-p j t
+    layout-is = ap (λ (x : ℕ). subLayout (under {k = j} p) (termLayout f s x)) e ∙ layout-under j f n s (h .counted) t p p keeps (λ v. refl)
 
-    is-L : subLayout (under {k = j} p) (termLayout f s a) ≡ L
-    is-L = ap (λ (x : ℕ). subLayout (under {k = j} p) (termLayout f s x)) ea ∙ layout-under j f n s (h .counted) u p p kp (λ v. refl)
+    count-is : count (under-p j t) ≡ count (termLayout f s a)
+    count-is = ap (λ (L : Layout j). count L) (sym layout-is) ∙ count-sub (under {k = j} p) (termLayout f s a)
 
-    is-M : subLayout (under {k = j} q) (termLayout f s b) ≡ M
-    is-M = ap (λ (x : ℕ). subLayout (under {k = j} q) (termLayout f s x)) eb ∙ layout-under j f n s (h .counted) t q q kq (λ v. refl)
+    first-zero : a ≤ n → 0 < count (under-p j t) → distance (under-p j t) 0 ≡ 0
+    first-zero l m =
+        let c = count-is in
+        distance-zero (moduleOf f) (sub (under {k = j} p) (moduleOf f .term t))
+        (omega (arith, h .sized a l (omega arith), ap (λ (L : Layout j). L .size) (sym layout-is), subLayout-size (under {k = j} p) (termLayout f s a)))
 
-    count-L : count L ≡ count (termLayout f s a)
-    count-L = ap (λ (N : Layout j). count N) (sym is-L) ∙ count-sub (under {k = j} p) (termLayout f s a)
+  pub same-own : (t u a : ℕ) → u ≡ t → a ≡ placeOf n u → (c : ℕ) → c ≡ count (termLayout f s a) → SameIs f u t p (ltb 0 c)
+  same-own t u a q e c is = (own variable, own live)
+    where
+      own : (j : RegionKind) → ltb 0 c ≡ does (decSame (under-p j u) (under-p j t))
+      own j = same-itself (under-p j u) c (count-is j u a e ∙ sym is) ∙ ap (λ (x : ℕ). does (decSame (under-p j u) (under-p j x))) q
 
-    count-M : count M ≡ count (termLayout f s b)
-    count-M = ap (λ (N : Layout j). count N) (sym is-M) ∙ count-sub (under {k = j} q) (termLayout f s b)
+  module _ (u t a b : ℕ) (ea : a ≡ placeOf n u) (eb : b ≡ placeOf n t) (la : a ≤ n) where
+    pub same-no : (count (termLayout f s a) ≡ count (termLayout f s b) → ⊥) → SameIs f u t p false
+    same-no d = (no variable, no live)
+      where
+        no : (j : RegionKind) → false ≡ does (decSame (under-p j u) (under-p j t))
+        no j = same-counts (under-p j u) (under-p j t) (λ e. d (sym (count-is j u a ea) ∙ e ∙ count-is j t b eb))
 
-    first-zero : 0 < count L → distance L 0 ≡ 0
-    first-zero l =
-        let c = count-L in
-        distance-zero (moduleOf f) (sub (under {k = j} p) (moduleOf f .term u))
-        (omega (arith, h .sized a la (omega arith), ap (λ (N : Layout j). N .size) (sym is-L), subLayout-size (under {k = j} p) (termLayout f s a)))
-
-  pub same-no : (count (termLayout f s a) ≡ count (termLayout f s b) → ⊥) → SameIs f u p t q false
-  same-no d = (same-counts (L variable) (M variable) (λ e. d (sym (count-L variable) ∙ e ∙ count-M variable)), same-counts (L live) (M live) (λ e. d (sym (count-L live) ∙ e ∙ count-M live)))
-
-  pub same-is : count (termLayout f s a) ≡ count (termLayout f s b) → (r : Bool) → RunIs f u p 0 t q r → SameIs f u p t q r
-  same-is e r w = (
-    w .0 ∙ same-run-from (L variable) (M variable) (count-L variable ∙ e ∙ sym (count-M variable)) (first-zero variable),
-    w .1 ∙ same-run-from (L live) (M live) (count-L live ∙ e ∙ sym (count-M live)) (first-zero live),
-  )
+    pub same-is : count (termLayout f s a) ≡ count (termLayout f s b) → (r : Bool) → RunIs f u p 0 t p r → SameIs f u t p r
+    same-is e r w = (w .0 ∙ from-run variable, w .1 ∙ from-run live)
+      where
+        from-run : (j : RegionKind) → does (decRun (under-p j u) 0 (under-p j t)) ≡ does (decSame (under-p j u) (under-p j t))
+        from-run j = same-run-from (under-p j u) (under-p j t) (count-is j u a ea ∙ e ∙ sym (count-is j t b eb)) (first-zero j u a ea la)
 
 -- ---- addresses
 

@@ -131,6 +131,9 @@ fn arguments(d: usize, count: usize, to: &[u8]) -> [u8; 8]
     requires { ⌜ count ≤ 8 ⌝ }
     ensures { λ r. ⌜ ((v : ℕ) → byteUnder r v ≡ argByte (now (to .entry)) d count v) ⌝ }
 {
+    if count == 0 {
+        return [255, 255, 255, 255, 255, 255, 255, 255];
+    }
     let a0 = argument(d, count, to, 0);
     let a1 = argument(d, count, to, 1);
     let a2 = argument(d, count, to, 2);
@@ -290,7 +293,10 @@ fn run_places(
 {
     let first = place_prim(f, n, k, a, p, d, tab);
     let from = first.off;
-    let mut i = 0;
+    if !same_prim(f, first, from, place_prim(f, n, k, b, q, 0, tab)) {
+        return false;
+    }
+    let mut i = 1;
     while i < many {
         let x = place_prim(f, n, k, a, p, d + i, tab);
         let y = place_prim(f, n, k, b, q, i, tab);
@@ -415,26 +421,20 @@ pub fn run_at(
     run_from(f, n, k, u, p, d, t, q, tab)
 }
 
-// Whether the primitives of term u under p are those of term t under q (kinds 27, 28).
-pub fn same_prims(
-    f: &[u8],
-    n: usize,
-    k: usize,
-    u: usize,
-    p: &[u8],
-    t: usize,
-    q: &[u8],
-    tab: &[u64],
-) -> bool
-    requires { ⌜ (Table (now f) n k (now tab)) × (length (now p) ≤ 8) × (length (now q) ≤ 8) ⌝ }
-    ensures { λ r. ⌜ SameIs (now (f .entry)) u (now (p .entry)) t (now (q .entry)) r ⌝ }
+// Whether the primitives of terms u and t, both under p, are the same (kinds 27, 28). Most that are compared are one term.
+pub fn same_prims(f: &[u8], n: usize, k: usize, u: usize, t: usize, p: &[u8], tab: &[u64]) -> bool
+    requires { ⌜ (Table (now f) n k (now tab)) × (length (now p) ≤ 8) ⌝ }
+    ensures { λ r. ⌜ SameIs (now (f .entry)) u t (now (p .entry)) r ⌝ }
 {
     let e = extent_in(tab, terms::place_of(n, u));
+    if u == t {
+        return 0 < e.count;
+    }
     let g = extent_in(tab, terms::place_of(n, t));
     if e.count != g.count {
         return false;
     }
-    run_from(f, n, k, u, p, 0, t, q, tab)
+    run_from(f, n, k, u, p, 0, t, p, tab)
 }
 
 // Kind 24: the size of an element and their number, of an array.
