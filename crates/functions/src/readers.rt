@@ -20,7 +20,7 @@ pub fn region_term(f: &[u8], h: usize, i: usize) -> usize
     ensures { λ r. ⌜ r ≡ regionTerm (now (f .entry)) h i ⌝ }
 {
     let x = walk::file::record_at(f, h + 1);
-    terms::entry_of(x, i)
+    walk::file::entry_of(x, i)
 }
 
 // One less, or 0.

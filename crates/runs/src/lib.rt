@@ -220,14 +220,14 @@ fn struct_prim(
     ensures { λ r. ⌜ (Found (now (f .entry)) r to off (nth (structLayout (now (f .entry)) number) i)) × (r .place ≤ n) × (r .off ≤ 256) ⌝ }
 {
     let first = n + 2 * number;
-    let x = terms::record_at(f, first);
-    let y = terms::record_at(f, first + 1);
+    let x = walk::file::record_at(f, first);
+    let y = walk::file::record_at(f, first + 1);
     let fields = x.b;
     let mut size = 0;
     let mut count = 0;
     let mut j: u8 = 0;
     while j < fields {
-        let p = terms::place_of(n, terms::entry_of(y, j as usize));
+        let p = terms::place_of(n, walk::file::entry_of(y, j as usize));
         let e = extent_in(tab, p);
         if i < count + e.count {
             let c = core_in(tab, p);

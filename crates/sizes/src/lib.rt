@@ -25,7 +25,7 @@ fn field_term(f: &[u8], n: usize, number: usize, i: usize) -> usize
     ensures { λ r. ⌜ r ≡ fieldTerm (now (f .entry)) n number i ⌝ }
 {
     let x = walk::file::record_at(f, n + 2 * number + 1);
-    terms::entry_of(x, i)
+    walk::file::entry_of(x, i)
 }
 
 // A struct term has as many arguments as its struct has regions.

@@ -12,7 +12,7 @@ use lib.Seq.{getD-at}
 use Rattle.words.specs.Bytes.{Bytes, AllBytes}
 use Rattle.words.specs.ByteLaws.{listOf-agree, number-lt}
 use Rattle.words.specs.Choose.{cond-lt, cond-nlt, cond-ne, cond-ap, cond-split, lt-or-le, split-lt}
-use Rattle.rules.specs.File.{recordOf, recordStart, byteOfD, entryOf}
+use Rattle.rules.specs.File.{recordOf, recordStart, byteOfD}
 use Rattle.rules.specs.Types.{variable, region, Tree}
 use Rattle.rules.specs.Decode.{noTree, regionBytes, treeOf, treesOf}
 use Rattle.rules.specs.declared.Record.{Record}
@@ -40,15 +40,6 @@ digit-lt d zero h = omega arith
 digit-lt d (suc zero) h = omega arith
 digit-lt d (suc (suc zero)) h = omega arith
 digit-lt d (suc (suc (suc j))) h = omega arith
-
-pub entry-rest : (x : Record) (i d r : ℕ) → 2 < i → (d ≡ x .d) × (d < 4294967296) → r ≡ digit d (i - 3) → (r ≡ entryOf x i) × (r < 256)
-entry-rest x zero d r h e q = absurd (omega arith)
-entry-rest x (suc zero) d r h e q = absurd (omega arith)
-entry-rest x (suc (suc zero)) d r h e q = absurd (omega arith)
-entry-rest x (suc (suc (suc j))) d r h e q =
-    let z : suc (suc (suc j)) - 3 ≡ j = omega arith in
-    let p : r ≡ digit d j = q ∙ ap (digit d) z in
-    (p ∙ ap (λ (v : ℕ). digit v j) (e .0) ∙ digit-byte x j, rw p (digit-lt d j (e .1)))
 
 -- ---- the head by the record's kind
 

@@ -4,7 +4,6 @@
 ghost use mathlib.Core.Path.{_≡_};
 ghost use Prim.Native.Nat.{max, _+_, _*_, _<_, _≤_};
 ghost use lib.ListN.{length};
-ghost use Rattle.rules.specs.File.{recordOf, entryOf};
 ghost use Rattle.rules.specs.Decode.{moduleOf};
 ghost use Rattle.rules.specs.Flat.{flat, structFlat};
 ghost use Rattle.words.specs.Decide.{does};
@@ -16,7 +15,6 @@ ghost use Rattle.terms.specs.Compare.{byteUnder};
 ghost use Rattle.terms.specs.Bounds.{bound, boundOf, headBound};
 ghost use Rattle.terms.specs.Readers.{Reads, Inner, formBy};
 use rules::Record;
-use words::word_at;
 
 // What a term's record says: inner terms by place, region arguments by how many, and the number that holds them.
 pub enum Head {
@@ -42,26 +40,7 @@ pub struct Variable(pub u8);
 
 pub struct Live(pub u8);
 
-// ---- records
-
-// Record r. One test for all its bytes: its block is in the file.
-pub fn record_at(f: &[u8], r: usize) -> Record
-    ensures { λ x. ⌜ x ≡ recordOf (now (f .entry)) r ⌝ }
-{
-    let block = r / 63;
-    if block < f.len() / 512 {
-        let o = 512 * block + 4 + 8 * (r % 63);
-        Record {
-            kind: f[o],
-            a: f[o + 1],
-            b: f[o + 2],
-            c: f[o + 3],
-            d: word_at(f, o + 4),
-        }
-    } else {
-        walk::file::last_record(f, r)
-    }
-}
+// ---- numbers
 
 pub fn wide(x: u8) -> usize
     ensures { λ r. ⌜ (r ≡ x) × (r < 256) ⌝ }
@@ -84,18 +63,6 @@ pub fn digit(d: usize, j: usize) -> usize
         1 => d / 256 % 256,
         2 => d / 65536 % 256,
         _ => d / 16777216,
-    }
-}
-
-// Entry i of a record, its bytes 1 to 7.
-pub fn entry_of(x: Record, i: usize) -> usize
-    ensures { λ r. ⌜ (r ≡ entryOf x i) × (r < 256) ⌝ }
-{
-    match i {
-        0 => wide(x.a),
-        1 => wide(x.b),
-        2 => wide(x.c),
-        _ => digit(wide_word(x.d), i - 3),
     }
 }
 
@@ -132,7 +99,7 @@ pub fn head_of(f: &[u8], p: usize) -> Head
     if p == 0 {
         Head::Int(1)
     } else {
-        head_from(p - 1, record_at(f, p - 1))
+        head_from(p - 1, walk::file::record_at(f, p - 1))
     }
 }
 
@@ -274,13 +241,13 @@ pub fn struct_extent(f: &[u8], n: usize, number: usize) -> Extent
     ensures { λ r. ⌜ (r ≡ structExtent (now (f .entry)) number) × (Small r) ⌝ }
 {
     let first = n + 2 * number;
-    let x = record_at(f, first);
-    let y = record_at(f, first + 1);
+    let x = walk::file::record_at(f, first);
+    let y = walk::file::record_at(f, first + 1);
     let fields = wide(x.b);
     let mut sum = Extent { size: 0, count: 0 };
     let mut i = 0;
     while i < fields {
-        let p = place_of(n, entry_of(y, i));
+        let p = place_of(n, walk::file::entry_of(y, i));
         let e = term_extent(f, n, number, p);
         sum = plus(sum, e);
         if sum.size > 256 {

@@ -1,6 +1,6 @@
 //! Nanoseconds a record of the two checkers, best of several rounds in one run, on accepted modules
-//! of 1 to 64 blocks that are full of instructions of every form. Built with the feature `librcm`
-//! and the folder of `librcm.a` in RCM_LIB_DIR.
+//! of 1 to 64 blocks that are full of instructions of every form, and on one that is made to be
+//! slow. Built with the feature `librcm` and the folder of `librcm.a` in RCM_LIB_DIR.
 
 use reference::builder::{code, file, record, FunctionBuilder, ModuleBuilder};
 use reference::compare::Interface;
@@ -81,9 +81,42 @@ fn module(blocks: usize) -> Vec<u8> {
     file(&records)
 }
 
+/// A module of 64 blocks in which each instruction compares 256 primitives: those of a struct in a
+/// struct, 31 deep, with those of an array.
+fn nested() -> Vec<u8> {
+    let depth = 31;
+    let mut module = ModuleBuilder::new();
+    let i32_term = module.integer(4);
+    let i8_term = module.integer(1);
+    let rest = module.array(i8_term, 256 - (depth as u32 - 1));
+    let array = module.array(i8_term, 256);
+    let structs: Vec<u8> = (0..depth).map(|name| module.name_term(name, &[])).collect();
+    let to_struct = module.pointer(structs[depth as usize - 1], 0);
+    let to_array = module.pointer(array, 0);
+    module.name(0, &[rest]);
+    for inner in &structs[..depth as usize - 1] {
+        module.name(0, &[i8_term, *inner]);
+    }
+    for _ in 0..4 {
+        let pair = [code::new(1), code::field(2, 1, 0)];
+        let mut code: Vec<Record> = pair.into_iter().cycle().take(950).collect();
+        code.push(code::ret(0));
+        module.function(&FunctionBuilder {
+            regions: vec![array],
+            region_parameters: 0,
+            registers: vec![i32_term, to_struct, to_array],
+            parameters: 0,
+            return_term: i32_term,
+            code,
+        });
+    }
+    let mut records = module.records();
+    records.resize(64 * 63, record(0, 0, 0, 0, 0));
+    file(&records)
+}
+
 /// The shortest of several rounds of so many calls.
-fn best(file: &[u8], check: impl Fn(&[u8]) -> Answer) -> Duration {
-    let calls = 200;
+fn best(file: &[u8], calls: u32, check: impl Fn(&[u8]) -> Answer) -> Duration {
     let round = || {
         let start = Instant::now();
         for _ in 0..calls {
@@ -94,22 +127,27 @@ fn best(file: &[u8], check: impl Fn(&[u8]) -> Answer) -> Duration {
     (0..9).map(|_| round()).min().expect("some rounds")
 }
 
+fn row(file: &[u8], calls: u32) {
+    let answer = host::check(file);
+    assert_eq!(answer[0], host::GOOD, "{answer:?}");
+    assert_eq!(answer, library_check(file));
+    let blocks = file.len() / 512;
+    let records = blocks * 63;
+    let nanoseconds = |time: Duration| time.as_nanos() as f64 / records as f64;
+    let library = nanoseconds(best(file, calls, library_check));
+    let interpreter = nanoseconds(best(file, calls, host::check));
+    let ratio = library / interpreter;
+    let byte = library * records as f64 / file.len() as f64;
+    println!(
+        "{blocks:6}  {records:7}   {library:17.1}  {byte:7.1}   {interpreter:21.1}   {ratio:5.2}"
+    );
+}
+
 fn main() {
     println!("blocks  records   library ns/record  ns/byte   interpreter ns/record   ratio");
     for blocks in [1, 4, 16, 64] {
-        let file = module(blocks);
-        let answer = host::check(&file);
-        assert_eq!(answer[0], host::GOOD, "blocks {blocks}: {answer:?}");
-        assert_eq!(answer, library_check(&file));
-        let records = file.len() / 512 * 63;
-        let nanoseconds = |time: Duration| time.as_nanos() as f64 / records as f64;
-        let library = nanoseconds(best(&file, library_check));
-        let interpreter = nanoseconds(best(&file, host::check));
-        let ratio = library / interpreter;
-        let byte = library * records as f64 / file.len() as f64;
-        let blocks = file.len() / 512;
-        println!(
-            "{blocks:6}  {records:7}   {library:17.1}  {byte:7.1}   {interpreter:21.1}   {ratio:5.2}"
-        );
+        row(&module(blocks), 200);
     }
+    println!("each instruction on 256 primitives of structs 31 deep:");
+    row(&nested(), 1);
 }

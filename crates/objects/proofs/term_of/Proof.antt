@@ -29,7 +29,7 @@ entry-of-requires : tie.Need-entry-of-requires
 entry-of-requires c κs = search needs
 
 returns : tie.Need-returns
-returns c = term-is _ _ _ _ (c .before .before .before .wide .ensures .0 ∙ c .before .before .before .before .function .ensures) (c .before .before .start-of .ensures) (c .before .record-at .ensures) (c .entry-of .ensures)
+returns c = term-is _ _ _ _ (c .before .before .before .wide .ensures .0 ∙ c .before .before .before .before .function .ensures) (c .before .before .start-of .ensures) (c .before .record-at .ensures) (c .entry-of .ensures .0)
 
 pub term-of-spec : {M : Type 1} → statement M
 term-of-spec =

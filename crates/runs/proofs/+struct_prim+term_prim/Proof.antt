@@ -32,10 +32,10 @@ use Rattle.runs.proofs.+struct_prim+term_prim.Lts-term_prim as term-pri
 use Rattle.runs.proofs.arguments.Reads as arguments-reads
 use Rattle.runs.proofs.core_in.Reads as core-in-reads
 use Rattle.runs.proofs.extent_in.Reads as extent-in-reads
-use Rattle.terms.proofs.entry_of.Reads as entry-of-reads
+use Rattle.walk.proofs.file.entry_of.Reads as entry-of-reads
 use Rattle.terms.proofs.head_of.Reads as head-of-reads
 use Rattle.terms.proofs.place_of.Reads as place-of-reads
-use Rattle.terms.proofs.record_at.Reads as record-at-reads
+use Rattle.walk.proofs.file.record_at.Reads as record-at-reads
 use Rattle.runs.proofs.+struct_prim+term_prim.{statement}
 use Rattle.runs.proofs.+struct_prim+term_prim.Tie.{close}
 

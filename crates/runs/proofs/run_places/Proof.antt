@@ -1,6 +1,6 @@
 -- `runs::run_places` meets its contract: the first i primitives are the same.
 
-use Prim.Native.Nat.{_≤_, _+_, _-_}
+use Prim.Native.Nat.{_≤_, _-_}
 use Rattle.layout.specs.Prims.{nth}
 use Rattle.runs.specs.Positions.{Found}
 use Rattle.runs.specs.Runs.{RunTo, run-more, run-stop, run-end}

@@ -21,12 +21,12 @@ use Rattle.terms.proofs.+struct_extent+term_extent.Lts-struct_extent as
 use Rattle.terms.proofs.term_extent.Reads as term-extent
 use Rattle.terms.proofs.term_extent.Kinds as term-extent-kinds
 use Rattle.terms.proofs.+struct_extent+term_extent.Lts-term_extent as term-extent-lts
-use Rattle.terms.proofs.entry_of.Reads as entry-of-reads
+use Rattle.walk.proofs.file.entry_of.Reads as entry-of-reads
 use Rattle.terms.proofs.head_of.Reads as head-of-reads
 use Rattle.terms.proofs.over.Reads as over-reads
 use Rattle.terms.proofs.place_of.Reads as place-of-reads
 use Rattle.terms.proofs.plus.Reads as plus-reads
-use Rattle.terms.proofs.record_at.Reads as record-at-reads
+use Rattle.walk.proofs.file.record_at.Reads as record-at-reads
 use Rattle.terms.proofs.times.Reads as times-reads
 use Rattle.terms.proofs.wide.Reads as wide-reads
 use Rattle.terms.proofs.+struct_extent+term_extent.{statement}

@@ -29,7 +29,7 @@ equal-under-requires c κs = search needs
 
 returns : tie.Need-returns
 unfolding callArgument
-returns c = let a = c .before .before .before .before .before .before .before .args in let f = now (a .f) in let v = c .before .before .before .before .entry-of .ensures in ap₂ _&&_ (c .before .is-register .ensures ∙ ap (isRegister (functionAt f (a .h))) v) (c .equal-under .ensures ∙ ap₂ (λ (S T : Tree variable). does (decTree S (sub (under (now (a .to))) T))) (register-is f (a .h) _ (c .before .before .before .register-term .ensures) ∙ ap (functionAt f (a .h) .registerType) v) (register-is f (a .e) (a .i) (c .before .before .register-term2 .ensures)))
+returns c = let a = c .before .before .before .before .before .before .before .args in let f = now (a .f) in let v = c .before .before .before .before .entry-of .ensures .0 in ap₂ _&&_ (c .before .is-register .ensures ∙ ap (isRegister (functionAt f (a .h))) v) (c .equal-under .ensures ∙ ap₂ (λ (S T : Tree variable). does (decTree S (sub (under (now (a .to))) T))) (register-is f (a .h) _ (c .before .before .before .register-term .ensures) ∙ ap (functionAt f (a .h) .registerType) v) (register-is f (a .e) (a .i) (c .before .before .register-term2 .ensures)))
 
 pub call-argument-spec : {M : Type 1} → statement M
 call-argument-spec =
