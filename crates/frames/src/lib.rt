@@ -15,6 +15,7 @@ ghost use Rattle.frames.specs.Packed.{packed};
 ghost use Rattle.frames.specs.Regions.{marked, lowestIn, filled, numberIn, liveBy, Bounded};
 ghost use Rattle.frames.specs.Entered.{putRegisters, putRegions, begun, enteredMap, enteredRegisters, Operands};
 ghost use Rattle.frames.specs.Left.{closingBy, closedFrom, leavingBy, closedIf, ownedIn, localSet};
+use pages::KNOWN;
 use state::LiveRegion;
 use state::Machine;
 use state::RegionVariable;
@@ -37,9 +38,6 @@ use words::word_at;
 const SET: usize = 257;
 
 const TABLE: usize = 256;
-
-// Of each page the places known to be used (pages).
-const KNOWN: usize = 64;
 
 // ---- sets of regions: entry 1 + r is 1 where region r is in the set
 
