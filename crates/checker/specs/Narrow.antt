@@ -22,7 +22,7 @@ use Rattle.rules.specs.declared.Record.{Record}
 use Rattle.rules.specs.declared.Walk.{Walk}
 use Rattle.typing.specs.Walk.{Fits}
 use Rattle.typing.specs.Lists.{getD-left, getD-last, getD-past}
-use Rattle.runs.specs.Maps.{Narrow, each-of}
+use Rattle.positions.specs.Maps.{Narrow, each-of}
 use Rattle.checker.specs.Ranges.{TermCase, of-integer, of-pointer, of-array, of-struct, term-case, integer-plain, array-plain, pointer-region, struct-regions, terms-fit}
 
 -- "region variable b (0-6)"; "region arguments .., each 0-6"

@@ -27,7 +27,7 @@ use Rattle.typing.specs.Tests.{left, right}
 use Rattle.typing.specs.Accepted.{module-tables, module-ranges}
 use Rattle.typing.specs.Refused.{function-test}
 use Rattle.typing.specs.Facts.{uses-more, scope-all}
-use Rattle.runs.specs.Table.{Ranged}
+use Rattle.positions.specs.Table.{Ranged}
 use Rattle.walk.specs.Tables.{tablesOf, tables-walk, tables-starts}
 use Rattle.walk.specs.declared.tables.Tables.{Tables}
 use Rattle.functions.specs.Functions.{Known, functionAt, function-at}

@@ -5,7 +5,7 @@ ghost use Rattle.rules.specs.Decode.{moduleOf, startOf};
 ghost use Rattle.rules.specs.Verdict.{functionTest, verdictOf};
 ghost use mathlib.Core.Bool.{true};
 ghost use Rattle.typing.specs.Walk.{Fits};
-ghost use Rattle.runs.specs.Table.{Table};
+ghost use Rattle.positions.specs.Table.{Table};
 ghost use Rattle.functions.specs.Functions.{Known, functionAt};
 ghost use Rattle.instructions.specs.Plain.{Tight};
 ghost use Rattle.instructions.specs.Scan.{typedFrom};
@@ -71,7 +71,7 @@ fn typed_rules(f: &[u8], n: usize, k: usize, c: usize, starts: &[usize; CALLEES]
     requires { ⌜ Known (now f) n k c (now starts) ⌝ ∗ ⌜ Fits (now f) ⌝ ∗ ⌜ ((g : ℕ) → g < c → functionTest (moduleOf (now f)) g ≡ true) ⌝ }
     ensures { λ v. ⌜ v ≡ typedRules (now (f .entry)) ⌝ }
 {
-    let tab = runs::extents(f, n, k);
+    let tab = positions::extents(f, n, k);
     let o = typed_functions(f, n, k, c, starts, &tab);
     match o {
         Outcome::Passed => last_rules(f, n, k, c, starts),

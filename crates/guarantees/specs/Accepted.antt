@@ -15,8 +15,8 @@ use Rattle.walk.specs.Tables.{tablesOf}
 use Rattle.walk.specs.declared.tables.Tables.{Tables}
 use Rattle.terms.specs.Extents.{Counted}
 use Rattle.functions.specs.Functions as functions
-use Rattle.runs.specs.Table.{Ranged}
-use Rattle.runs.specs.Maps.{Narrow}
+use Rattle.positions.specs.Table.{Ranged}
+use Rattle.positions.specs.Maps.{Narrow}
 use Rattle.stack.specs.Facts as stack
 use Rattle.checker.specs.Ranges.{known, ranged}
 use Rattle.checker.specs.Narrow.{narrow}

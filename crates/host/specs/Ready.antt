@@ -7,8 +7,8 @@ use Rattle.rules.specs.Verdict.{verdictOf, IsAccepted}
 use Rattle.walk.specs.declared.tables.Tables as walk
 use Rattle.walk.specs.Tables.{tablesOf}
 use Rattle.functions.specs.Functions as functions
-use Rattle.runs.specs.Table.{Table}
-use Rattle.runs.specs.Maps.{Narrow}
+use Rattle.positions.specs.Table.{Table}
+use Rattle.positions.specs.Maps.{Narrow}
 use Rattle.stack.specs.Facts as stack
 use Rattle.guarantees.specs.Accepted.{given}
 use Rattle.host.specs.declared.tables.Tables.{Tables}

@@ -22,7 +22,7 @@ pub fn tables_of(file: &[u8]) -> Tables
     let t = walk::tables::tables_of(file);
     let w = t.walk;
     let starts = t.starts;
-    let extents = runs::extents(file, w.terms, w.names);
+    let extents = positions::extents(file, w.terms, w.names);
     Tables {
         terms: w.terms,
         structs: w.names,

@@ -6,7 +6,7 @@ ghost use Rattle.words.specs.Decide.{does};
 ghost use Rattle.rules.specs.Decision.{decTyped};
 ghost use Rattle.rules.specs.Decode.{moduleOf};
 ghost use Rattle.rules.specs.Verdict.{instructionTest};
-ghost use Rattle.runs.specs.Table.{Table};
+ghost use Rattle.positions.specs.Table.{Table};
 ghost use Rattle.functions.specs.Functions.{placeLimit, Known, functionAt, instructionIn, placeIn};
 ghost use Rattle.instructions.specs.Plain.{Tight};
 use walk::limits::CALLEES;

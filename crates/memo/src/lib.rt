@@ -1,7 +1,7 @@
 // Where runs stand, remembered: pointers of one term lead into one region, so that only the distance into its objects tells them apart.
 ghost use Prim.Native.Nat.{_<_, _≤_};
 ghost use lib.ListN.{length};
-ghost use Rattle.runs.specs.Table.{Table};
+ghost use Rattle.positions.specs.Table.{Table};
 ghost use Rattle.runs.specs.Runs.{RunAtIs, StandsIs};
 ghost use Rattle.memo.specs.Memo.{Forgotten, Noted, Remembers, SizeIs};
 use state::Machine;

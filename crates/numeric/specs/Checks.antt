@@ -15,7 +15,7 @@ use Rattle.rules.specs.Heap.{close, HeapTyping, decStands}
 use Rattle.rules.specs.Step.{assign, stop}
 use Rattle.terms.specs.Compare.{under}
 use Rattle.runs.specs.Runs.{StandsIs}
-use Rattle.runs.specs.Maps.{Narrow, mapList, under-close}
+use Rattle.positions.specs.Maps.{Narrow, mapList, under-close}
 use Rattle.prepared.specs.Program.{kind, registerA, registerB, regionVariable, targetTerm, regionTerm}
 use Rattle.prepared.specs.Plain.{oneType, plainStands, plainCheck, plainArithmetic}
 use Rattle.prepared.specs.Ready.{Ready}

@@ -6,7 +6,7 @@ ghost use Rattle.rules.specs.Limits.{pages, pageBytes};
 ghost use Rattle.rules.specs.Flat.{size};
 ghost use Rattle.rules.specs.Decode.{moduleOf};
 ghost use Rattle.rules.specs.State.{frameMap};
-ghost use Rattle.runs.specs.Table.{Table};
+ghost use Rattle.positions.specs.Table.{Table};
 ghost use Rattle.stack.specs.Tells.{Tells};
 ghost use Rattle.stack.specs.Facts.{Known};
 ghost use Rattle.objects.specs.Homes.{lastOf, lastLocal, frameOf, termAt, regionTree, HomeIs, partAt, IsPart, objectAt};
@@ -126,7 +126,7 @@ pub fn size_of(
     if k == 0 {
         return 0;
     }
-    let e = runs::extent_at(terms, h.term, tab, f, structs);
+    let e = positions::extent_at(terms, h.term, tab, f, structs);
     e.size
 }
 

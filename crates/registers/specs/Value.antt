@@ -19,7 +19,7 @@ use Rattle.rules.specs.State.{view, pageOwner, frameMap}
 use Rattle.rules.specs.Heap.{close, HeapTyping, heapTyping, Stands, decStands, Value}
 use Rattle.terms.specs.Compare.{under}
 use Rattle.runs.specs.Runs.{StandsIs}
-use Rattle.runs.specs.Maps.{Narrow, mapList, under-close}
+use Rattle.positions.specs.Maps.{Narrow, mapList, under-close}
 use Rattle.stack.specs.Tells.{Tells, tells-lt, does-tells}
 use Rattle.objects.specs.Homes.{regionTree, HomeIs}
 use Rattle.objects.specs.declared.Home.{Home}

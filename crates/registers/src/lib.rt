@@ -5,10 +5,10 @@ ghost use Prim.Native.Nat.{ℕ, _<_, _^_};
 ghost use Rattle.rules.specs.Decode.{moduleOf};
 ghost use Rattle.rules.specs.State.{frameMap};
 ghost use Rattle.rules.specs.Heap.{close, Stands};
-ghost use Rattle.runs.specs.Table.{Table};
+ghost use Rattle.positions.specs.Table.{Table};
 ghost use Rattle.stack.specs.Tells.{Tells};
 ghost use Rattle.stack.specs.Facts.{Known};
-ghost use Rattle.runs.specs.Maps.{Narrow, mapList};
+ghost use Rattle.positions.specs.Maps.{Narrow, mapList};
 ghost use Rattle.registers.specs.Value.{typingOf};
 ghost use Rattle.registers.specs.Registers.{ValueOk, RegisterOk, RegistersOk, AllRegisters, registerTerm};
 use memo::stands_known;
@@ -94,7 +94,7 @@ fn stands_at(
     let p = map_of(s, frame - 1);
     let q = map_of(s, k);
     let owner = state::total::owner(s, x / Machine::PAGE_BYTES);
-    let e = runs::extent_at(terms, h.term, tab, f, structs);
+    let e = positions::extent_at(terms, h.term, tab, f, structs);
     let mut memo = [0u8; 256];
     stands_known(
         f,

@@ -1,40 +1,37 @@
 -- Runs as the code decides them: a run is there where as many primitives follow and each is the same. Assumes nothing.
-use mathlib.Core.Path.{_≡_, refl, sym, ap, ap₂, _∙_, subst}
+use mathlib.Core.Path.{_≡_, refl, sym, ap, ap₂, _∙_}
 use mathlib.Core.Logic.{inr, ⊎-elim}
-use mathlib.Core.Bool.{Bool, true, false, _&&_, not}
+use mathlib.Core.Bool.{Bool, true, false, _&&_}
 use mathlib.Core.List.{List, [], _∷_, map}
 use Prim.Native.Nat.{ℕ, suc, _+_, _-_, _*_, _/_, _%_, _≤_, _<_}
 use native.Mathlib.Decide.{ℕ-discrete, decLt, decLe}
 use native.Mathlib.Nat.{mul-comm}
 use native.Mathlib.Omega.{arith}
 use lib.Dec.{eqb, ltb, leb}
-use lib.ListN.{length, getD, List·getD-map}
+use lib.ListN.{length}
 use lib.Seq.{take-all}
 use borrow.Author.Tests.{eq-eqb, ne-eqb, eqb-true, lt-ltb, ltb-true, le-ltb, le-leb, lt-leb}
 use Rattle.words.specs.Bytes.{Bytes}
 use Rattle.words.specs.Choose.{false-by, true-not-false, lt-or-le, bool-same, and-no, does-lt, does-le}
 use Rattle.words.specs.First.{first}
-use Rattle.words.specs.FirstLaws.{first-is}
 use Rattle.words.specs.Decide.{does, does-true, decBoth, true-does}
-use Rattle.rules.specs.Types.{RegionKind, variable, live, Region, Variable, region, Tree, int, ptr, arr, struct, sub, arg, nowhere, decTree, form, numberOf, inner}
+use Rattle.rules.specs.Types.{RegionKind, variable, live, Tree, sub, decTree}
 use Rattle.rules.specs.Module.{Module}
-use Rattle.rules.specs.Flat.{Placed, at, off, Layout, count, none, moved, copies, placedIn, subLayout, flatWith, layouts, flat, distance, decPlaced, Run, decRun, positionAt, Same, decSame, size}
+use Rattle.rules.specs.Flat.{Placed, at, off, Layout, count, moved, subLayout, flat, distance, decPlaced, Run, decRun, positionAt, Same, decSame, size}
 use Rattle.rules.specs.Decode.{moduleOf}
-use Rattle.layout.specs.Types.{sub-sub}
-use Rattle.layout.specs.Prims.{nth, moved-zero, count-sub, subLayout-size, subLayout-copies}
+use Rattle.layout.specs.Prims.{nth, moved-zero, count-sub, subLayout-size}
 use Rattle.rules.specs.Limits.{pages, pageBytes}
 use Rattle.rules.specs.Heap.{HeapTyping, decStands}
 use Rattle.layout.specs.Flat.{distance-zero, size-sub}
-use Rattle.layout.specs.Runs.{run-matches, matches-run, Rising, flat-rising, nth-sub, distance-sub, position-sub, position-is}
+use Rattle.layout.specs.Runs.{run-matches, matches-run, distance-sub}
 use Rattle.terms.specs.Heads.{placeOf, treeAt}
 use Rattle.terms.specs.Extents.{Counted}
-use Rattle.terms.specs.Compare.{under, under-is, sub-same, does-map, does-both, does-nat}
+use Rattle.terms.specs.Compare.{under, does-map, does-both, does-nat}
 use Rattle.equality.specs.Equal.{placesSame}
-use Rattle.runs.specs.Table.{termLayout, Table}
-use Rattle.runs.specs.TableLaws.{layout-term}
-use Rattle.runs.specs.Positions.{Keeps, Agree, under-agree, placedOf, Found}
-use Rattle.terms.specs.declared.Extent.{Extent}
-use Rattle.runs.specs.declared.Primitive.{Primitive}
+use Rattle.positions.specs.Table.{termLayout, Table}
+use Rattle.positions.specs.Positions.{Keeps, Agree, placedOf, Found}
+use Rattle.positions.specs.Distances.{position-under, found-nth, found-off, layout-under}
+use Rattle.positions.specs.declared.Primitive.{Primitive}
 
 -- what holds of written variables and of live regions holds of both kinds
 pub of-kinds : (P : RegionKind → Type 0) → P variable → P live → (k : RegionKind) → P k
@@ -81,50 +78,6 @@ eqb-minus x from y h = bool-same (eqb (x - from) y) (eqb x (from + y))
 
 pub eqb-less : (x from y : ℕ) → x < from → eqb x (from + y) ≡ false
 eqb-less x from y h = ne-eqb x (from + y) (λ e. omega arith)
-
--- ---- what the code finds, under substitutions
-
--- what was found, from the start, is the primitive of the substituted layout
-pub found-nth : (f : Bytes) (r : Primitive) (to : Bytes) (L : Layout variable) (i : ℕ) → Found f r to 0 (nth L i) → (k : RegionKind) → placedOf k f r ≡ nth (subLayout (under {k = k} to) L) i
-found-nth f r to L i h k = h k ∙ moved-zero (placedIn (under {k = k} to) (nth L i)) ∙ sym (nth-sub (under to) L i)
-
-pub found-off : (f : Bytes) (r : Primitive) (to : Bytes) (L : Layout variable) (i : ℕ) → Found f r to 0 (nth L i) → r .off ≡ distance L i
-found-off f r to L i h = ap off (found-nth f r to L i h variable) ∙ distance-sub (under {k = variable} to) L i
-
--- ---- the layout of a substituted term
-
--- flat types go through a substitution that keeps nowhere
-with-keeps : {j k : RegionKind} (ls : List (Layout variable)) (σ : Region j → Region k) → σ (region nowhere) ≡ region nowhere → (T : Tree j) → flatWith ls (sub σ T) ≡ subLayout σ (flatWith ls T)
-unfolding flatWith sub subLayout
-with-keeps ls σ h (int w) = refl
-with-keeps ls σ h (ptr T r) = refl
-with-keeps ls σ h (arr n T) = ap (copies n) (with-keeps ls σ h T) ∙ sym (subLayout-copies σ n (flatWith ls T))
-with-keeps {j} {k} ls σ h (struct N rs) =
-    ap (λ (l : List (Placed k)). record { size = getD ls N none .size; prims = l }) (through (getD ls N none .prims))
-  where
-    argument : (v : Variable) → arg (map σ rs) v ≡ σ (arg rs v)
-    argument v = subst (λ (z : Region k). getD (map σ rs) (v .number) z ≡ σ (getD rs (v .number) (region nowhere))) h (List·getD-map σ rs (v .number) (region nowhere))
-
-    through : (l : List (Placed variable)) → map (placedIn (arg (map σ rs))) l ≡ map (placedIn σ) (map (placedIn (arg rs)) l)
-    through [] = refl
-    through (at d T ∷ l) =
-        ap₂ {C = List (Placed k)} _∷_ (ap {B = Placed k} (at d) (sub-same (arg (map σ rs)) (λ v. σ (arg rs v)) argument T ∙ sym (sub-sub σ (arg rs) T))) (through l)
-
--- term t of the file under p, as the code has it: at its place, under p held
-pub layout-under : (k : RegionKind) (f : Bytes) (n s : ℕ) → Counted f n s → (t : ℕ) (p held : Bytes) → Keeps held → Agree held p
-    → subLayout (under {k = k} held) (termLayout f s (placeOf n t)) ≡ flat (moduleOf f) (sub (under p) (moduleOf f .term t))
-unfolding flat
-layout-under k f n s h t p held keeps agree =
-    ap (subLayout (under {k = k} held)) (layout-term f n s h t)
-    ∙ sym (with-keeps (layouts (moduleOf f) (moduleOf f .structs)) (under {k = k} held) (under-is held (region nowhere) ∙ ap region keeps) (moduleOf f .term t))
-    ∙ ap (λ (T : Tree k). flatWith (layouts (moduleOf f) (moduleOf f .structs)) T) (sub-same (under {k = k} held) (under p) (under-agree held p agree) (moduleOf f .term t))
-
--- ---- positions
-
-pub position-none : {k : RegionKind} (L : Layout k) (o i : ℕ) → i ≡ count L → ((j : ℕ) → j < i → distance L j ≡ o → ⊥) → i ≡ positionAt L o
-unfolding positionAt
-position-none L o i e before =
-    sym (first-is (count L) (λ q. not (eqb (distance L q) o)) i (omega arith) (λ j m. ap not (ne-eqb (distance L j) o (before j m))) (λ l. absurd (omega arith)))
 
 -- ---- the code's loop over a run
 
@@ -181,68 +134,12 @@ module _ (f : Bytes) (n s : ℕ) (h : Counted f n s) (u : ℕ) (p hp : Bytes) (k
   pub run-is : (r : Bool) → ((j : RegionKind) → r ≡ does (decRun (subLayout (under {k = j} hp) (termLayout f s a)) d (subLayout (under hq) (termLayout f s b)))) → RunIs f u p d t q r
   run-is r e = (e variable ∙ run-kind variable, e live ∙ run-kind live)
 
--- ---- positions by halves
-
--- all before low are nearer than o, and all from high on are not
-pub record Lower (L : Layout variable) (o low high : ℕ) : Type 0 where
-  pub within : high ≤ count L
-  pub ordered : low ≤ high
-  pub nearer : (j : ℕ) → j < low → distance L j < o
-  pub further : (j : ℕ) → high ≤ j → j < count L → o ≤ distance L j
-
-pub lower-start : (L : Layout variable) (o many : ℕ) → many ≡ count L → Lower L o 0 many
-lower-start L o many e = record { within = omega arith; ordered = omega arith; nearer = λ j l. absurd (omega arith); further = λ j l m. absurd (omega arith) }
-
-module _ (L : Layout variable) (up : Rising L) (o low high mid : ℕ) (so : Lower L o low high) (a : low ≤ mid) (b : mid < high) where
-  in-list : mid < count L
-  in-list = let w = so .within in omega arith
-
-  pub lower-up : distance L mid < o → Lower L o (mid + 1) high
-  lower-up h = record {
-    within = so .within;
-    ordered = omega arith;
-    nearer = λ j l. ⊎-elim (λ m. let u = up j mid m in-list in omega arith) (λ m. let z : j ≡ mid = omega arith in rw z h) (lt-or-le j mid);
-    further = so .further;
-  }
-
-  pub lower-down : o ≤ distance L mid → Lower L o low mid
-  lower-down h = record {
-    within = let w = so .within in omega arith;
-    ordered = a;
-    nearer = so .nearer;
-    further = λ j l m. ⊎-elim (λ w. let u = up mid j w m in omega arith) (λ w. let z : j ≡ mid = omega arith in rw z h) (lt-or-le mid j);
-  }
-
-module _ (L : Layout variable) (o i : ℕ) (so : Lower L o i i) where
-  pub lower-found : i < count L → distance L i ≡ o → i ≡ positionAt L o
-  lower-found l h = sym (position-is L o i l (λ j m e. let s = so .nearer j m in omega arith) h)
-
-  pub lower-other : Rising L → i < count L → (distance L i ≡ o → ⊥) → (many : ℕ) → many ≡ count L → many ≡ positionAt L o
-  lower-other up l h many e = position-none L o many e
-      (λ j m d. ⊎-elim
-      (λ w. let s = so .nearer j w in omega arith)
-      (λ w. ⊎-elim (λ v. let u = up i j v (omega arith) in let s = so .further i (omega arith) l in h (omega arith)) (λ v. h (let z : i ≡ j = omega arith in rw z d)) (lt-or-le i j))
-      (lt-or-le j i))
-
-  pub lower-past : count L ≤ i → (many : ℕ) → many ≡ count L → many ≡ positionAt L o
-  lower-past l many e = position-none L o many e (λ j m d. let s = so .nearer j (let w = so .within in omega arith) in omega arith)
-
--- distances grow, also in the layout at a place
-pub layout-rising : (f : Bytes) (n k : ℕ) → Counted f n k → (p : ℕ) → Rising (termLayout f k p)
-unfolding termLayout
-layout-rising f n k h p = rw (h .structs) (unfold flat in flat-rising (moduleOf f) (treeAt f p))
+-- ---- runs by distance
 
 abbrev pub RunAtIs : Bytes → ℕ → Bytes → ℕ → ℕ → Bytes → Bool → Type 0
 RunAtIs f u p o t q r =
     (r ≡ does (decRun (flat (moduleOf f) (sub (under {k = variable} p) (moduleOf f .term u))) (positionAt (flat (moduleOf f) (sub (under {k = variable} p) (moduleOf f .term u))) o) (flat (moduleOf f) (sub (under q) (moduleOf f .term t)))))
     × (r ≡ does (decRun (flat (moduleOf f) (sub (under {k = live} p) (moduleOf f .term u))) (positionAt (flat (moduleOf f) (sub (under {k = live} p) (moduleOf f .term u))) o) (flat (moduleOf f) (sub (under q) (moduleOf f .term t)))))
-
--- a position does not depend on the regions
-pub position-under : (k : RegionKind) (f : Bytes) (p : Bytes) → Keeps p → (t o : ℕ) → positionAt (flat (moduleOf f) (sub (under {k = k} p) (moduleOf f .term t))) o ≡ positionAt (flat (moduleOf f) (moduleOf f .term t)) o
-unfolding flat
-position-under k f p keeps t o =
-    ap (λ (L : Layout k). positionAt L o) (with-keeps (layouts (moduleOf f) (moduleOf f .structs)) (under {k = k} p) (under-is p (region nowhere) ∙ ap region keeps) (moduleOf f .term t))
-    ∙ position-sub (under {k = k} p) (flatWith (layouts (moduleOf f) (moduleOf f .structs)) (moduleOf f .term t)) o
 
 pub run-at-is : (f : Bytes) (u : ℕ) (p : Bytes) → Keeps p → (o t : ℕ) (q : Bytes) (d : ℕ) → d ≡ positionAt (flat (moduleOf f) (moduleOf f .term u)) o → (r : Bool) → RunIs f u p d t q r → RunAtIs f u p o t q r
 run-at-is f u p keeps o t q d e r h = (
@@ -287,12 +184,6 @@ module _ {k : RegionKind} (L M : Layout k) where
         some = let p = s .some in omega arith;
         equal = take-all (count M) (L .prims) (omega arith) ∙ s .equal ∙ sym (nothing (M .prims) (distance L 0) (z (s .some)));
       }
-
--- ---- the element of an array
-
-pub record ElementIs (f : Bytes) (t : ℕ) (e : Extent) : Type 0 where
-  pub size : form (moduleOf f .term t) ≡ 3 → e .size ≡ size (moduleOf f) (inner (moduleOf f .term t))
-  pub count : e .count ≡ numberOf (moduleOf f .term t)
 
 module _ (f : Bytes) (n s : ℕ) (tab : List ℕ) (h : Table f n s tab) (p : Bytes) (keeps : Keeps p) where
   -- term t under p

@@ -1,263 +1,22 @@
-// Positions and runs of primitives: document 01, "Flat types" and "The machine"; what kinds 22, 23, 24, 27 and 28 and the state test
-// ask of types. A table of extents is filled once for a file; all else asks for that table, and nothing of the file's contents.
-// A substitution is lent as bytes, that of variable 0 first, and held as eight.
+// Runs of primitives: document 01, "Flat types" and "The machine"; what kinds 22, 23, 27 and 28 and the state test ask of types. All ask
+// for the table of extents, and nothing of the file's contents. A substitution is lent as bytes, that of variable 0 first.
 ghost use mathlib.Core.Path.{_≡_};
-ghost use Prim.Native.Nat.{ℕ, _+_, _*_, _/_, _<_, _≤_};
+ghost use Prim.Native.Nat.{_+_, _<_, _≤_};
 ghost use lib.ListN.{length};
 ghost use Rattle.words.specs.Decide.{does};
 ghost use Rattle.rules.specs.Types.{RegionKind, variable, live, sub};
-ghost use Rattle.rules.specs.Flat.{flat, count, size, distance, positionAt, decPlaced, decRun, moved, subLayout};
+ghost use Rattle.rules.specs.Flat.{flat, count, decPlaced, decRun, moved, subLayout};
 ghost use Rattle.rules.specs.Decode.{moduleOf};
-ghost use Rattle.layout.specs.Prims.{nth};
-ghost use Rattle.terms.specs.Extents.{Counted, Small};
-ghost use Rattle.terms.specs.Compare.{byteUnder, under};
-ghost use Rattle.runs.specs.Table.{pack, entryAt, coreAt, Core, Ranged, Known, Table, exactOf, termLayout, structLayout};
-ghost use Rattle.runs.specs.Positions.{Keeps, Agree, argByte, placedOf, Found};
-ghost use Rattle.runs.specs.Runs.{Lower, RunAtIs, SameIs, ElementIs, InPageIs, StandsIs};
-use terms::Extent;
-use terms::Head;
+ghost use Rattle.terms.specs.Compare.{under};
+ghost use Rattle.positions.specs.Table.{Table, termLayout};
+ghost use Rattle.positions.specs.Positions.{Keeps, placedOf};
+ghost use Rattle.runs.specs.Entries.{Compared};
+ghost use Rattle.runs.specs.Runs.{RunAtIs, SameIs, InPageIs, StandsIs};
+use positions::Primitive;
 use terms::Live;
 
-// A primitive: its distance in bytes, and the place of its term with the regions put for its variables.
-pub struct Primitive {
-    pub off: usize,
-    pub place: usize,
-    pub to: [u8; 8],
-}
-
-// ---- the table
-
-// An extent and a core as one number of the table.
-fn entry(e: Extent, core: usize) -> u64
-    requires { ⌜ (Small e) × (core ≤ 128) ⌝ }
-    ensures { λ r. ⌜ r ≡ pack e core ⌝ }
-{
-    let size = e.size;
-    let count = e.count;
-    (size + 1024 * count + 1048576 * core) as u64
-}
-
-// The extent at place p, from the table. Place 0 is i8.
-fn extent_in(tab: &[u64], p: usize) -> Extent
-    ensures { λ r. ⌜ r ≡ entryAt (now (tab .entry)) p ⌝ }
-{
-    if p == 0 {
-        return Extent { size: 1, count: 1 };
-    }
-    let t = p - 1;
-    if t < tab.len() {
-        let x = tab[t];
-        return Extent {
-            size: (x % 1024) as usize,
-            count: (x / 1024 % 1024) as usize,
-        };
-    }
-    Extent { size: 0, count: 0 }
-}
-
-// The core of the term at place p, by place: what is left when arrays of one are taken off.
-fn core_in(tab: &[u64], p: usize) -> usize
-    ensures { λ r. ⌜ r ≡ coreAt (now (tab .entry)) p ⌝ }
-{
-    if p == 0 {
-        return 0;
-    }
-    let t = p - 1;
-    if t < tab.len() {
-        let x = tab[t];
-        return (x / 1048576) as usize;
-    }
-    0
-}
-
-// The core of the term at place p, where those of lower places are in the table.
-fn core_of(f: &[u8], p: usize, tab: &[u64]) -> usize
-    requires { ⌜ ((q : ℕ) → q < p → Core (now f) q (coreAt (now tab) q)) ⌝ }
-    ensures { λ r. ⌜ Core (now (f .entry)) p r ⌝ }
-{
-    match terms::head_of(f, p) {
-        Head::Arr(n, a) => {
-            if n == 1 {
-                return core_in(tab, a);
-            }
-            p
-        }
-        Head::Int(_) => p,
-        Head::Ptr(_, _) => p,
-        Head::Struct(_, _, _) => p,
-    }
-}
-
-// The table of a file with n terms and k structs, whose records are in range.
-pub fn extents(f: &[u8], n: usize, k: usize) -> [u64; 128]
-    requires { ⌜ (Counted (now f) n k) × (Ranged (now f) n) ⌝ }
-    ensures { λ r. ⌜ Table (now (f .entry)) n k r ⌝ }
-{
-    let mut tab = [0u64; 128];
-    let mut t = 0;
-    while t < n {
-        let e = terms::term_extent(f, n, k, t + 1);
-        let c = core_of(f, t + 1, &tab);
-        tab[t] = entry(e, c);
-        t += 1;
-    }
-    tab
-}
-
-// Size and number of primitives of term t.
-pub fn extent_at(n: usize, t: usize, tab: &[u64], f: &[u8], k: usize) -> Extent
-    requires { ⌜ Table (now f) n k (now tab) ⌝ }
-    ensures { λ r. do let m = moduleOf (now (f .entry)) in ⌜ (r ≡ exactOf (flat m (m .term t))) × (Small r) ⌝ }
-{
-    extent_in(tab, terms::place_of(n, t))
-}
-
-// ---- substitutions
-
-// The byte for region j of a struct term whose number d holds `count` regions, under `to`: 255 where there is none.
-fn argument(d: usize, count: usize, to: &[u8], j: usize) -> u8
-    ensures { λ r. ⌜ r ≡ argByte (now (to .entry)) d count j ⌝ }
-{
-    if j < count {
-        let v = terms::digit(d, j);
-        if v < to.len() { to[v] } else { 255 }
-    } else {
-        255
-    }
-}
-
-// The substitution for the fields of a struct.
-fn arguments(d: usize, count: usize, to: &[u8]) -> [u8; 8]
-    requires { ⌜ count ≤ 8 ⌝ }
-    ensures { λ r. ⌜ ((v : ℕ) → byteUnder r v ≡ argByte (now (to .entry)) d count v) ⌝ }
-{
-    if count == 0 {
-        return [255, 255, 255, 255, 255, 255, 255, 255];
-    }
-    let a0 = argument(d, count, to, 0);
-    let a1 = argument(d, count, to, 1);
-    let a2 = argument(d, count, to, 2);
-    let a3 = argument(d, count, to, 3);
-    let a4 = argument(d, count, to, 4);
-    let a5 = argument(d, count, to, 5);
-    let a6 = argument(d, count, to, 6);
-    let a7 = argument(d, count, to, 7);
-    [a0, a1, a2, a3, a4, a5, a6, a7]
-}
-
-fn byte_or(to: &[u8], j: usize) -> u8
-    ensures { λ r. ⌜ r ≡ byteUnder (now (to .entry)) j ⌝ }
-{
-    if j < to.len() { to[j] } else { 255 }
-}
-
-// A lent substitution of at most eight regions, held.
-pub fn held(to: &[u8]) -> [u8; 8]
-    requires { ⌜ length (now to) ≤ 8 ⌝ }
-    ensures { λ r. ⌜ Agree r (now (to .entry)) ⌝ }
-{
-    let a0 = byte_or(to, 0);
-    let a1 = byte_or(to, 1);
-    let a2 = byte_or(to, 2);
-    let a3 = byte_or(to, 3);
-    let a4 = byte_or(to, 4);
-    let a5 = byte_or(to, 5);
-    let a6 = byte_or(to, 6);
-    let a7 = byte_or(to, 7);
-    [a0, a1, a2, a3, a4, a5, a6, a7]
-}
-
-// ---- the primitive at a position: two functions in a cycle, as for sizes
-
-// Primitive i of the term at place p, which lies off bytes into something of at most 256.
-fn term_prim(
-    f: &[u8],
-    n: usize,
-    k: usize,
-    p: usize,
-    to: [u8; 8],
-    off: usize,
-    i: usize,
-    tab: &[u64],
-) -> Primitive
-    requires { do let L = termLayout (now f) k p in ⌜ (p ≤ n) × (off + L .size ≤ 256) × (i < count L) × (Keeps to) × (Known (now f) n k (now tab)) × (i < 256) ⌝ }
-    ensures { λ r. ⌜ (Found (now (f .entry)) r to off (nth (termLayout (now (f .entry)) k p) i)) × (r .place ≤ n) × (r .off ≤ 256) ⌝ }
-{
-    match terms::head_of(f, p) {
-        Head::Arr(_, a) => {
-            let e = extent_in(tab, a);
-            let size = e.size;
-            let count = e.count;
-            if count == 0 {
-                return Primitive { off, place: p, to };
-            }
-            let c = core_in(tab, a);
-            term_prim(f, n, k, c, to, off + i / count * size, i % count, tab)
-        }
-        Head::Struct(number, count, d) => {
-            if number < k {
-                let inside = arguments(d, count, &to);
-                return struct_prim(f, n, number, inside, off, i, tab);
-            }
-            Primitive { off, place: p, to }
-        }
-        Head::Int(_) => Primitive { off, place: p, to },
-        Head::Ptr(_, _) => Primitive { off, place: p, to },
-    }
-}
-
-// Primitive i of a struct: of the field in which it falls.
-fn struct_prim(
-    f: &[u8],
-    n: usize,
-    number: usize,
-    to: [u8; 8],
-    off: usize,
-    i: usize,
-    tab: &[u64],
-) -> Primitive
-    requires { do let L = structLayout (now f) number in ⌜ (number < 256) × (off + L .size ≤ 256) × (i < count L) × (Keeps to) × (Known (now f) n number (now tab)) × (i < 256) ⌝ }
-    ensures { λ r. ⌜ (Found (now (f .entry)) r to off (nth (structLayout (now (f .entry)) number) i)) × (r .place ≤ n) × (r .off ≤ 256) ⌝ }
-{
-    let first = n + 2 * number;
-    let x = walk::file::record_at(f, first);
-    let y = walk::file::record_at(f, first + 1);
-    let fields = x.b;
-    let mut size = 0;
-    let mut count = 0;
-    let mut j: u8 = 0;
-    while j < fields {
-        let p = terms::place_of(n, walk::file::entry_of(y, j as usize));
-        let e = extent_in(tab, p);
-        if i < count + e.count {
-            let c = core_in(tab, p);
-            return term_prim(f, n, number, c, to, off + size, i - count, tab);
-        }
-        size = size + e.size;
-        count = count + e.count;
-        j += 1;
-    }
-    Primitive { off, place: 0, to }
-}
-
-// Primitive i of the term at place p.
-pub fn place_prim(
-    f: &[u8],
-    n: usize,
-    k: usize,
-    p: usize,
-    to: [u8; 8],
-    i: usize,
-    tab: &[u64],
-) -> Primitive
-    requires { ⌜ (Table (now f) n k (now tab)) × (p ≤ n) × (i < count (termLayout (now f) k p)) × (Keeps to) ⌝ }
-    ensures { λ r. ⌜ (Found (now (f .entry)) r to 0 (nth (termLayout (now (f .entry)) k p) i)) × (r .place ≤ n) × (r .off ≤ 256) ⌝ }
-{
-    let c = core_in(tab, p);
-    term_prim(f, n, k, c, to, 0, i, tab)
-}
-
-// ---- runs
+// Of so few primitives, a descent for each is cheaper than writing the terms out.
+const SHORT: usize = 2;
 
 // Whether x is y, `from` bytes further.
 fn same_prim(f: &[u8], x: Primitive, from: usize, y: Primitive) -> bool
@@ -275,7 +34,96 @@ fn same_prim(f: &[u8], x: Primitive, from: usize, y: Primitive) -> bool
     (x_off - from == y_off) & equality::same_places(f, x_place, &x_to, y_place, &y_to)
 }
 
-// Whether the `many` primitives of the term at place b under q are those of the term at place a under p, from position d on.
+// Whether the `many` primitives of the term at place b under q are those of the term at place a under p, from position d on: by a descent
+// for each.
+fn short_run(
+    f: &[u8],
+    n: usize,
+    k: usize,
+    a: usize,
+    p: [u8; 8],
+    d: usize,
+    b: usize,
+    q: [u8; 8],
+    many: usize,
+    tab: &[u64],
+) -> bool
+    requires { ⌜ (Table (now f) n k (now tab)) × (a ≤ n) × (b ≤ n) × (Keeps p) × (Keeps q) × (many ≡ count (termLayout (now f) k b)) × (0 < many) × (d + many ≤ count (termLayout (now f) k a)) ⌝ }
+    ensures { λ r. ⌜ ((j : RegionKind) → r ≡ does (decRun (subLayout (under {k = j} p) (termLayout (now (f .entry)) k a)) d (subLayout (under q) (termLayout (now (f .entry)) k b)))) ⌝ }
+{
+    let first = positions::place_prim(f, n, k, a, p, d, tab);
+    let from = first.off;
+    if !same_prim(f, first, from, positions::place_prim(f, n, k, b, q, 0, tab)) {
+        return false;
+    }
+    let mut i = 1;
+    while i < many {
+        let x = positions::place_prim(f, n, k, a, p, d + i, tab);
+        let y = positions::place_prim(f, n, k, b, q, i, tab);
+        if same_prim(f, x, from, y) {
+            i += 1;
+        } else {
+            return false;
+        }
+    }
+    true
+}
+
+// Whether the `many` primitives written into the latter entries are those of the former, from entry d on.
+fn entries_same(
+    f: &[u8],
+    subs: &[[u8; 8]; 256],
+    spots: &[u64; 256],
+    d: usize,
+    subs2: &[[u8; 8]; 256],
+    spots2: &[u64; 256],
+    many: usize,
+) -> bool
+    requires { ⌜ (0 < many) × (d + many ≤ 256) ⌝ }
+    ensures { λ r. ⌜ Compared (now (f .entry)) (now (subs .entry)) (now (spots .entry)) d (now (subs2 .entry)) (now (spots2 .entry)) many r ⌝ }
+{
+    let first = flattening::entry(subs, spots, d);
+    let from = first.off;
+    let mut i = 0;
+    while i < many {
+        let x = flattening::entry(subs, spots, d + i);
+        let y = flattening::entry(subs2, spots2, i);
+        if same_prim(f, x, from, y) {
+            i += 1;
+        } else {
+            return false;
+        }
+    }
+    true
+}
+
+// The same, over both terms written out.
+fn written_run(
+    f: &[u8],
+    n: usize,
+    k: usize,
+    a: usize,
+    p: [u8; 8],
+    d: usize,
+    b: usize,
+    q: [u8; 8],
+    many: usize,
+    tab: &[u64],
+) -> bool
+    requires { ⌜ (Table (now f) n k (now tab)) × (a ≤ n) × (b ≤ n) × (Keeps p) × (Keeps q) × (many ≡ count (termLayout (now f) k b)) × (0 < many) × (d + many ≤ count (termLayout (now f) k a)) ⌝ }
+    ensures { λ r. ⌜ ((j : RegionKind) → r ≡ does (decRun (subLayout (under {k = j} p) (termLayout (now (f .entry)) k a)) d (subLayout (under q) (termLayout (now (f .entry)) k b)))) ⌝ }
+{
+    let none = [0u8; 8];
+    let mut subs = [none; 256];
+    let mut spots = [0u64; 256];
+    let mut subs2 = [none; 256];
+    let mut spots2 = [0u64; 256];
+    flattening::term_written(f, n, k, a, p, 0, &mut subs, &mut spots, 0, tab);
+    flattening::term_written(f, n, k, b, q, 0, &mut subs2, &mut spots2, 0, tab);
+    entries_same(f, &subs, &spots, d, &subs2, &spots2, many)
+}
+
+// The same, by whichever is cheaper.
 fn run_places(
     f: &[u8],
     n: usize,
@@ -291,22 +139,10 @@ fn run_places(
     requires { ⌜ (Table (now f) n k (now tab)) × (a ≤ n) × (b ≤ n) × (Keeps p) × (Keeps q) × (many ≡ count (termLayout (now f) k b)) × (0 < many) × (d + many ≤ count (termLayout (now f) k a)) ⌝ }
     ensures { λ r. ⌜ ((j : RegionKind) → r ≡ does (decRun (subLayout (under {k = j} p) (termLayout (now (f .entry)) k a)) d (subLayout (under q) (termLayout (now (f .entry)) k b)))) ⌝ }
 {
-    let first = place_prim(f, n, k, a, p, d, tab);
-    let from = first.off;
-    if !same_prim(f, first, from, place_prim(f, n, k, b, q, 0, tab)) {
-        return false;
+    if many > SHORT {
+        return written_run(f, n, k, a, p, d, b, q, many, tab);
     }
-    let mut i = 1;
-    while i < many {
-        let x = place_prim(f, n, k, a, p, d + i, tab);
-        let y = place_prim(f, n, k, b, q, i, tab);
-        if same_prim(f, x, from, y) {
-            i += 1;
-        } else {
-            return false;
-        }
-    }
-    true
+    short_run(f, n, k, a, p, d, b, q, many, tab)
 }
 
 // Whether the run of term t under q stands at position d of term u under p (kind 23).
@@ -326,8 +162,8 @@ pub fn run_from(
 {
     let a = terms::place_of(n, u);
     let b = terms::place_of(n, t);
-    let e = extent_in(tab, a);
-    let g = extent_in(tab, b);
+    let e = positions::extent_in(tab, a);
+    let g = positions::extent_in(tab, b);
     let most = e.count;
     let many = g.count;
     if many == 0 {
@@ -339,67 +175,18 @@ pub fn run_from(
     if most - d < many {
         return false;
     }
-    run_places(f, n, k, a, held(p), d, b, held(q), many, tab)
-}
-
-// ---- positions by distance
-
-// The distance of primitive i of the term at place p: the same under every substitution.
-fn place_off(f: &[u8], n: usize, k: usize, p: usize, i: usize, tab: &[u64]) -> usize
-    requires { ⌜ (Table (now f) n k (now tab)) × (p ≤ n) × (i < count (termLayout (now f) k p)) ⌝ }
-    ensures { λ r. ⌜ r ≡ distance (termLayout (now (f .entry)) k p) i ⌝ }
-{
-    let x = place_prim(f, n, k, p, [255, 255, 255, 255, 255, 255, 255, 255], i, tab);
-    x.off
-}
-
-// The first position of the term at place p, of `many` primitives, whose distance is o or more. By halves: distances grow.
-fn lower(f: &[u8], n: usize, k: usize, p: usize, o: usize, many: usize, tab: &[u64]) -> usize
-    requires { ⌜ (Table (now f) n k (now tab)) × (p ≤ n) × (many ≡ count (termLayout (now f) k p)) ⌝ }
-    ensures { λ r. ⌜ Lower (termLayout (now (f .entry)) k p) o r r ⌝ }
-{
-    let mut low = 0;
-    let mut high = many;
-    while low < high {
-        let mid = low + (high - low) / 2;
-        if place_off(f, n, k, p, mid, tab) < o {
-            low = mid + 1;
-        } else {
-            high = mid;
-        }
-    }
-    low
-}
-
-// The position of term t whose distance is o: the number of its primitives where there is none.
-pub fn position_at(f: &[u8], n: usize, k: usize, t: usize, o: usize, tab: &[u64]) -> usize
-    requires { ⌜ Table (now f) n k (now tab) ⌝ }
-    ensures { λ r. do let m = moduleOf (now (f .entry)) in ⌜ r ≡ positionAt (flat m (m .term t)) o ⌝ }
-{
-    let p = terms::place_of(n, t);
-    let e = extent_in(tab, p);
-    let many = e.count;
-    let i = lower(f, n, k, p, o, many, tab);
-    if i < many {
-        if place_off(f, n, k, p, i, tab) == o {
-            return i;
-        }
-        return many;
-    }
-    many
-}
-
-// Kind 23: the distance of position d of term t, 0 where there is none.
-pub fn distance(f: &[u8], n: usize, k: usize, t: usize, d: usize, tab: &[u64]) -> usize
-    requires { ⌜ Table (now f) n k (now tab) ⌝ }
-    ensures { λ r. do let m = moduleOf (now (f .entry)) in ⌜ r ≡ distance (flat m (m .term t)) d ⌝ }
-{
-    let p = terms::place_of(n, t);
-    let e = extent_in(tab, p);
-    if d < e.count {
-        return place_off(f, n, k, p, d, tab);
-    }
-    0
+    run_places(
+        f,
+        n,
+        k,
+        a,
+        positions::held(p),
+        d,
+        b,
+        positions::held(q),
+        many,
+        tab,
+    )
 }
 
 // Whether the run of term t under q stands at byte o of term u under p.
@@ -417,7 +204,7 @@ pub fn run_at(
     requires { ⌜ (Table (now f) n k (now tab)) × (length (now p) ≤ 8) × (length (now q) ≤ 8) ⌝ }
     ensures { λ r. ⌜ RunAtIs (now (f .entry)) u (now (p .entry)) o t (now (q .entry)) r ⌝ }
 {
-    let d = position_at(f, n, k, u, o, tab);
+    let d = positions::position_at(f, n, k, u, o, tab);
     run_from(f, n, k, u, p, d, t, q, tab)
 }
 
@@ -426,28 +213,15 @@ pub fn same_prims(f: &[u8], n: usize, k: usize, u: usize, t: usize, p: &[u8], ta
     requires { ⌜ (Table (now f) n k (now tab)) × (length (now p) ≤ 8) ⌝ }
     ensures { λ r. ⌜ SameIs (now (f .entry)) u t (now (p .entry)) r ⌝ }
 {
-    let e = extent_in(tab, terms::place_of(n, u));
+    let e = positions::extent_in(tab, terms::place_of(n, u));
     if u == t {
         return 0 < e.count;
     }
-    let g = extent_in(tab, terms::place_of(n, t));
+    let g = positions::extent_in(tab, terms::place_of(n, t));
     if e.count != g.count {
         return false;
     }
     run_from(f, n, k, u, p, 0, t, p, tab)
-}
-
-// Kind 24: the size of an element and their number, of an array.
-pub fn element(f: &[u8], n: usize, k: usize, t: usize, tab: &[u64]) -> Extent
-    requires { ⌜ Table (now f) n k (now tab) ⌝ }
-    ensures { λ r. ⌜ ElementIs (now (f .entry)) t r ⌝ }
-{
-    let a = terms::inner(f, n, t);
-    let e = extent_at(n, a, tab, f, k);
-    Extent {
-        size: e.size,
-        count: terms::number(f, n, t),
-    }
 }
 
 // ---- addresses
@@ -467,7 +241,7 @@ pub fn in_page(
     requires { ⌜ (Table (now f) n k (now tab)) × (length (now p) ≤ 8) × (length (now q) ≤ 8) × (x < 256) ⌝ }
     ensures { λ r. ⌜ InPageIs (now (f .entry)) u (now (p .entry)) x t (now (q .entry)) r ⌝ }
 {
-    let e = extent_at(n, u, tab, f, k);
+    let e = positions::extent_at(n, u, tab, f, k);
     let size = e.size;
     if size == 0 {
         return false;

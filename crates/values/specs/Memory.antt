@@ -22,12 +22,12 @@ use Rattle.terms.specs.Readers.{Inner}
 use Rattle.terms.specs.Heads.{placeOf}
 use Rattle.terms.specs.Extents.{Small, Terms}
 use Rattle.terms.specs.declared.Extent.{Extent}
-use Rattle.runs.specs.Table.{exactOf}
+use Rattle.positions.specs.Table.{exactOf}
 use Rattle.runs.specs.Runs.{StandsIs}
 use Rattle.stack.specs.Tells.{Tells, tells-map, tells-yes, does-tells}
 use Rattle.objects.specs.Homes.{HomeIs}
 use Rattle.objects.specs.declared.Home.{Home}
-use Rattle.runs.specs.Maps.{Narrow, mapList, under-close}
+use Rattle.positions.specs.Maps.{Narrow, mapList, under-close}
 use Rattle.registers.specs.Value.{typingOf}
 use Rattle.memo.specs.Memo.{SizeIs, Remembers, Forgotten, remembers-none, remembers-nothing, same-tree}
 use Rattle.values.specs.declared.memory.Target.{Target}

@@ -26,12 +26,12 @@ use Rattle.terms.specs.HeadLaws.{place-in, place-out, place-le}
 use Rattle.terms.specs.ExtentLaws.{module-term}
 use Rattle.terms.specs.Compare.{under}
 use Rattle.terms.specs.declared.Extent.{Extent}
-use Rattle.runs.specs.declared.Primitive.{Primitive}
-use Rattle.runs.specs.Table.{Table, termLayout, exactOf}
-use Rattle.runs.specs.TableLaws.{layout-term}
-use Rattle.runs.specs.Positions.{Keeps, Agree, Found, keeps-held}
-use Rattle.runs.specs.Runs.{found-nth, layout-under}
-use Rattle.runs.specs.Maps.{each-of, Narrow, mapList, under-close}
+use Rattle.positions.specs.declared.Primitive.{Primitive}
+use Rattle.positions.specs.Table.{Table, termLayout, exactOf}
+use Rattle.positions.specs.TableLaws.{layout-term}
+use Rattle.positions.specs.Positions.{Keeps, Agree, Found, keeps-held}
+use Rattle.positions.specs.Distances.{found-nth, layout-under}
+use Rattle.positions.specs.Maps.{each-of, Narrow, mapList, under-close}
 use Rattle.stack.specs.Tells.{Tells, tells-map, tells-yes, tells-not, tells-eq}
 use Rattle.objects.specs.Homes.{regionTree, HomeIs, size-some}
 use Rattle.objects.specs.Ends.{PlacesIn}

@@ -5,9 +5,9 @@ ghost use mathlib.Core.Path.{_≡_};
 ghost use Rattle.words.specs.Decide.{does};
 ghost use Rattle.rules.specs.Decode.{moduleOf};
 ghost use Rattle.rules.specs.StateTest.{decPasses};
-ghost use Rattle.runs.specs.Table.{Table};
+ghost use Rattle.positions.specs.Table.{Table};
 ghost use Rattle.stack.specs.Facts.{Known};
-ghost use Rattle.runs.specs.Maps.{Narrow};
+ghost use Rattle.positions.specs.Maps.{Narrow};
 
 pub mod memory;
 pub mod pages;

@@ -6,10 +6,10 @@ ghost use Prim.Native.Nat.{_-_, _<_, _^_};
 ghost use Rattle.rules.specs.Types.{form};
 ghost use Rattle.rules.specs.Decode.{moduleOf};
 ghost use Rattle.rules.specs.State.{view, memoryNumber};
-ghost use Rattle.runs.specs.Table.{Table};
+ghost use Rattle.positions.specs.Table.{Table};
 ghost use Rattle.stack.specs.Tells.{Tells};
 ghost use Rattle.stack.specs.Facts.{Known};
-ghost use Rattle.runs.specs.Maps.{Narrow, mapList};
+ghost use Rattle.positions.specs.Maps.{Narrow, mapList};
 ghost use Rattle.values.specs.Memory.{PrimitiveAt, TargetIs, AimIs, AimsAt};
 ghost use Rattle.memo.specs.Memo.{Remembers};
 use memo::forget;
@@ -90,7 +90,7 @@ pub fn target_of(
     let h = home_of(f, starts, functions, s, n, words::wide(region));
     let frame = h.frame;
     let map = map_before(s, frame);
-    let e = runs::extent_at(terms, h.term, tab, f, structs);
+    let e = positions::extent_at(terms, h.term, tab, f, structs);
     let run = inner(f, terms, t);
     Target {
         region,

@@ -5,8 +5,8 @@ ghost use Prim.Native.Nat.{ℕ, suc, _-_, _*_, _<_, _≤_};
 ghost use Rattle.rules.specs.Limits.{pages, pageBytes};
 ghost use Rattle.rules.specs.State.{pageOwner};
 ghost use Rattle.terms.specs.Heads.{placeOf};
-ghost use Rattle.runs.specs.Table.{Table};
-ghost use Rattle.runs.specs.Maps.{Narrow};
+ghost use Rattle.positions.specs.Table.{Table};
+ghost use Rattle.positions.specs.Maps.{Narrow};
 ghost use Rattle.stack.specs.Tells.{Tells};
 ghost use Rattle.stack.specs.Facts.{Known};
 ghost use Rattle.objects.specs.Homes.{HomeIs};
@@ -195,7 +195,7 @@ fn position_ok(
     ensures { λ r. ⌜ (Tells (r .ok) (OwnedPosition (now (f .entry)) (now (s .entry)) n p i)) × (AimIs (now (f .entry)) (now (s .entry)) n (r .aim) (now (memo .exit))) ⌝ }
 {
     let regions = o.to;
-    let x = runs::place_prim(f, terms, structs, o.place, regions, i, tab);
+    let x = positions::place_prim(f, terms, structs, o.place, regions, i, tab);
     let to = x.to;
     let t = term_at(terms, x.place);
     let kind = form(f, terms, t);
@@ -302,8 +302,8 @@ fn objects_of(
     let frame = h.frame;
     let term = h.term;
     let map = map_of(s, frame - 1);
-    let e = runs::extent_at(terms, term, tab, f, structs);
-    let to = runs::held(&map);
+    let e = positions::extent_at(terms, term, tab, f, structs);
+    let to = positions::held(&map);
     Objects {
         place: terms::place_of(terms, term),
         to,

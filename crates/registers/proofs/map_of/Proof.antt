@@ -1,5 +1,5 @@
 -- `registers::map_of` meets its contract: its seven entries. Assumes nothing.
-use Rattle.runs.specs.Maps.{map-is}
+use Rattle.positions.specs.Maps.{map-is}
 use borrow.Author.Needs.{needs}
 use Rattle.registers.proofs.map_of.Statement.{statement}
 use Rattle.registers.proofs.map_of.Tie as tie

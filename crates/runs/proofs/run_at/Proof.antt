@@ -1,6 +1,6 @@
 -- `runs::run_at` meets its contract: the run at the position of that byte.
 
-use Rattle.runs.specs.Positions.{keeps-held}
+use Rattle.positions.specs.Positions.{keeps-held}
 use Rattle.runs.specs.Runs.{run-at-is}
 use borrow.Author.Needs.{needs}
 use denote.Ref.{now}

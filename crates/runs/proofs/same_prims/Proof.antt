@@ -1,5 +1,5 @@
 -- `runs::same_prims` meets its contract: one term, or as many primitives and the run from the first one.
-use Rattle.runs.specs.Positions.{keeps-held}
+use Rattle.positions.specs.Positions.{keeps-held}
 use Rattle.runs.specs.Runs.{same-own, same-no, same-is}
 use Rattle.terms.specs.declared.Extent.{Extent}
 use borrow.Author.Needs.{needs}

@@ -1,5 +1,5 @@
 -- `map_of` meets its contract: its seven entries.
-use Rattle.runs.specs.Maps.{map-is}
+use Rattle.positions.specs.Maps.{map-is}
 use borrow.Author.Needs.{needs}
 use Rattle.numeric.proofs.check.map_of.Statement.{statement}
 use Rattle.numeric.proofs.check.map_of.Tie as tie

@@ -1,0 +1,469 @@
+-- The cycle of terms written out. `term_written` at (k, p) asks `copies_written` for lower places and `struct_written` for structs below k; both ask
+-- for terms: `copies_written` for that very place, `struct_written` for any, with the structs below it. So 2048 k + 2 p falls for a term, copies
+-- of it are one above, and a struct N lies between, at 2048 N + 1024. Assumes nothing.
+use Prim.Native.Nat.{ℕ, _+_, _*_, _-_, _≤_, _<_}
+use Rattle.rules.specs.File.{entryOf}
+use Rattle.rules.specs.Flat.{Layout, count, copiesOf}
+use Rattle.rules.specs.Types.{variable}
+use Rattle.rules.specs.declared.Record.{Record}
+use Rattle.layout.specs.Prims.{count-copiesOf, size-copiesOf}
+use Rattle.terms.specs.Extents.{fieldPlace, fieldCount, firsts}
+use Rattle.terms.specs.HeadLaws.{fair-at}
+use Rattle.terms.specs.Heads.{headOf, placeOf}
+use Rattle.terms.specs.declared.Extent.{Extent}
+use Rattle.terms.specs.declared.Head.the-variants.{Arr}
+use Rattle.positions.specs.Positions.{keeps-args, single-int, single-ptr, struct-size, struct-count, arr-layout, before, field, struct-fields}
+use Rattle.positions.specs.Table.{termLayout, Core, Few, exactOf}
+use Rattle.positions.specs.TableLaws.{known-less}
+use Rattle.flattening.specs.Written.{Written, Kept}
+use Rattle.flattening.specs.Laws.{put-single, written-none, kept-none, written-same, copies-end, kept-kept, written-kept, written-copy, copy-room, written-struct, written-unknown, size-next, count-next, field-fits, field-room, written-field}
+use borrow.Author.Needs.{needs}
+use denote.Ref.{now}
+use lib.ListN.{length}
+use mathlib.Core.List.{List}
+use mathlib.Core.Path.{_≡_, refl, sym, ap, _∙_, subst}
+use native.Mathlib.Numerals.{add-one}
+use native.Mathlib.Omega.{arith}
+use borrow.Fn.Kinds.{In}
+use borrow.Fn.PlainCycle.{Measures, is, falls, and}
+use Rattle.flattening.proofs.copies_written.Reads as copies-written
+use Rattle.flattening.proofs.copies_written.Kinds as copies-written-kinds
+use Rattle.flattening.proofs.+copies_written+struct_written+term_written.Lts-copies_written as copies-written-lts
+use Rattle.flattening.proofs.struct_written.Reads as struct-written
+use Rattle.flattening.proofs.struct_written.Kinds as struct-written-kinds
+use Rattle.flattening.proofs.+copies_written+struct_written+term_written.Lts-struct_written as struct-written-lts
+use Rattle.flattening.proofs.term_written.Reads as term-written
+use Rattle.flattening.proofs.term_written.Kinds as term-written-kinds
+use Rattle.flattening.proofs.+copies_written+struct_written+term_written.Lts-term_written as term-written-lts
+use Rattle.flattening.proofs.put.Reads as put-reads
+use Rattle.positions.proofs.arguments.Reads as arguments-reads
+use Rattle.positions.proofs.core_in.Reads as core-in-reads
+use Rattle.positions.proofs.extent_in.Reads as extent-in-reads
+use Rattle.walk.proofs.file.entry_of.Reads as entry-of-reads
+use Rattle.terms.proofs.head_of.Reads as head-of-reads
+use Rattle.terms.proofs.place_of.Reads as place-of-reads
+use Rattle.walk.proofs.file.record_at.Reads as record-at-reads
+use Rattle.flattening.proofs.+copies_written+struct_written+term_written.{statement}
+use Rattle.flattening.proofs.+copies_written+struct_written+term_written.Tie.{close}
+
+abbrev μ-copies-written : Measures 4 copies-written-kinds.ps ℕ
+μ-copies-written κs a = 2048 * a .1 .1 .0 + (2 * a .1 .1 .1 .0 + 1)
+
+abbrev μ-struct-written : Measures 4 struct-written-kinds.ps ℕ
+μ-struct-written κs a = 2048 * a .1 .1 .0 + 1024
+
+abbrev μ-term-written : Measures 4 term-written-kinds.ps ℕ
+μ-term-written κs a = 2048 * a .1 .1 .0 + 2 * a .1 .1 .1 .0
+
+abbrev copies-written-at : ℕ → In 4 copies-written-kinds.ps
+copies-written-at t = and 4 copies-written-kinds.ps (is 4 copies-written-kinds.ps μ-copies-written t) copies-written.Pre
+
+abbrev copies-written-below : ℕ → In 4 copies-written-kinds.ps
+copies-written-below t = and 4 copies-written-kinds.ps (falls 4 copies-written-kinds.ps _<_ μ-copies-written t) copies-written.Pre
+
+abbrev struct-written-at : ℕ → In 4 struct-written-kinds.ps
+struct-written-at t = and 4 struct-written-kinds.ps (is 4 struct-written-kinds.ps μ-struct-written t) struct-written.Pre
+
+abbrev struct-written-below : ℕ → In 4 struct-written-kinds.ps
+struct-written-below t = and 4 struct-written-kinds.ps (falls 4 struct-written-kinds.ps _<_ μ-struct-written t) struct-written.Pre
+
+abbrev term-written-at : ℕ → In 4 term-written-kinds.ps
+term-written-at t = and 4 term-written-kinds.ps (is 4 term-written-kinds.ps μ-term-written t) term-written.Pre
+
+abbrev term-written-below : ℕ → In 4 term-written-kinds.ps
+term-written-below t = and 4 term-written-kinds.ps (falls 4 term-written-kinds.ps _<_ μ-term-written t) term-written.Pre
+
+-- what the callees of `copies_written` ask and ensure, at the measure t
+abbrev copies-written-uses : ℕ → copies-written-lts.Claims
+copies-written-uses t = (extent-in-reads.Asked, extent-in-reads.Learnt, term-written-below t, term-written.Post)
+
+-- what the callees of `struct_written` ask and ensure, at the measure t
+abbrev struct-written-uses : ℕ → struct-written-lts.Claims
+struct-written-uses t = (record-at-reads.Asked, record-at-reads.Learnt, entry-of-reads.Asked, entry-of-reads.Learnt, place-of-reads.Asked, place-of-reads.Learnt, term-written-below t, term-written.Post, extent-in-reads.Asked, extent-in-reads.Learnt)
+
+-- what the callees of `term_written` ask and ensure, at the measure t
+abbrev term-written-uses : ℕ → term-written-lts.Claims
+term-written-uses t = (extent-in-reads.Asked, extent-in-reads.Learnt, core-in-reads.Asked, core-in-reads.Learnt, head-of-reads.Asked, head-of-reads.Learnt, copies-written-below t, copies-written.Post, arguments-reads.Asked, arguments-reads.Learnt, struct-written-below t, struct-written.Post, put-reads.Asked, put-reads.Learnt)
+
+abbrev copies-written-Inv-loop : copies-written-lts.InvT-loop
+copies-written-Inv-loop f n k a to off many subs₀ spots₀ at tab size count h₀ subs spots h = (h ≤ many) × (Written f subs spots at to off (copiesOf h (termLayout f k a))) × (Kept subs₀ spots₀ subs spots at)
+
+abbrev copies-written-μ-loop : copies-written-lts.MeasureT-loop
+copies-written-μ-loop f n k a to off many subs₀ spots₀ at tab size count h₀ subs spots h = many - h
+
+abbrev struct-written-Inv-loop : struct-written-lts.InvT-loop
+struct-written-Inv-loop f n number to off subs₀ spots₀ at tab first y fields size₀ count₀ j₀ subs spots size count j =
+    (j ≤ fields) × (size ≡ before f n number j .size) × (count ≡ length (before f n number j .prims)) × (Written f subs spots at to off (before f n number j)) × (Kept subs₀ spots₀ subs spots at)
+
+abbrev struct-written-μ-loop : struct-written-lts.MeasureT-loop
+struct-written-μ-loop f n number to off subs₀ spots₀ at tab first y fields size₀ count₀ j₀ subs spots size count j = fields - j
+
+-- What is known of copy h, in plain names.
+module _ (t : ℕ) (c : copies-written-lts.In-loop (copies-written-uses t) (copies-written-at t) copies-written.Post copies-written-Inv-loop copies-written-μ-loop) where
+  abbrev copy : Layout variable
+  copy = termLayout (now (c .before .before .before .before .before .args .f)) (c .before .before .before .before .before .args .k) (c .before .before .before .before .before .args .a)
+
+  copy-fits : c .before .before .before .before .before .args .off + c .before .loop .h * copy .size + copy .size ≤ 256
+  copy-fits = copy-room (c .before .before .before .before .before .args .off) (c .before .before .before .before .before .args .many) (c .before .loop .h) (copy .size) (c .loop-test .taken) (c .before .before .before .before .before .pre .1 .1)
+
+  copy-entries : c .before .before .before .before .before .args .at + c .before .loop .h * count copy + count copy ≤ 256
+  copy-entries = copy-room (c .before .before .before .before .before .args .at) (c .before .before .before .before .before .args .many) (c .before .loop .h) (count copy) (c .loop-test .taken) (c .before .before .before .before .before .pre .1 .2)
+
+  copy-extent : c .before .before .extent-in .result ≡ exactOf copy
+  copy-extent = c .before .before .extent-in .ensures ∙ c .before .before .before .before .before .pre .1 .4 .entries (c .before .before .before .before .before .args .a) (c .before .before .before .before .before .pre .1 .0) (let l = copy-fits in omega arith)
+
+  copy-size : c .before .before .extent-in .result .size ≡ copy .size
+  copy-size = ap (λ (x : Extent). x .size) copy-extent
+
+  copy-count : c .before .before .extent-in .result .count ≡ count copy
+  copy-count = ap (λ (x : Extent). x .count) copy-extent
+
+  copy-off : c .before .before .before .before .before .args .off + c .before .loop .h * c .before .before .extent-in .result .size + copy .size ≤ 256
+  copy-off = subst (λ (x : ℕ). c .before .before .before .before .before .args .off + c .before .loop .h * x + copy .size ≤ 256) (sym copy-size) copy-fits
+
+  copy-start : c .before .before .before .before .before .args .at + c .before .loop .h * c .before .before .extent-in .result .count + count copy ≤ 256
+  copy-start = subst (λ (x : ℕ). c .before .before .before .before .before .args .at + c .before .loop .h * x + count copy ≤ 256) (sym copy-count) copy-entries
+
+copies-written-loop-holds : (t : ℕ) → copies-written-lts.Need-loop-holds (copies-written-uses t) (copies-written-at t) copies-written.Post copies-written-Inv-loop copies-written-μ-loop
+copies-written-loop-holds t c =
+    let L = termLayout (now (c .before .before .before .args .f)) (c .before .before .before .args .k) (c .before .before .before .args .a) in
+    (omega arith, written-none (copiesOf 0 L) (omega (arith, count-copiesOf 0 L)), kept-none (c .before .before .before .args .at) (c .before .before .before .pre .1 .5))
+
+copies-written-mul-term-written : (t : ℕ) → copies-written-lts.Need-mul-term-written (copies-written-uses t) (copies-written-at t) copies-written.Post copies-written-Inv-loop copies-written-μ-loop
+copies-written-mul-term-written t c = omega (arith, copy-off t c)
+
+copies-written-add-term-written : (t : ℕ) → copies-written-lts.Need-add-term-written (copies-written-uses t) (copies-written-at t) copies-written.Post copies-written-Inv-loop copies-written-μ-loop
+copies-written-add-term-written t c = omega (arith, copy-off t c)
+
+copies-written-mul-term-written-2 : (t : ℕ) → copies-written-lts.Need-mul-term-written-2 (copies-written-uses t) (copies-written-at t) copies-written.Post copies-written-Inv-loop copies-written-μ-loop
+copies-written-mul-term-written-2 t c = omega (arith, copy-start t (c .before .before))
+
+copies-written-add-term-written-2 : (t : ℕ) → copies-written-lts.Need-add-term-written-2 (copies-written-uses t) (copies-written-at t) copies-written.Post copies-written-Inv-loop copies-written-μ-loop
+copies-written-add-term-written-2 t c = omega (arith, copy-start t (c .before .before))
+
+copies-written-term-written-requires : (t : ℕ) → copies-written-lts.Need-term-written-requires (copies-written-uses t) (copies-written-at t) copies-written.Post copies-written-Inv-loop copies-written-μ-loop
+copies-written-term-written-requires t c κs =
+    let q = c .before .before .before .before .before .before .before .pre in
+    (omega (arith, q .0), (q .1 .0, copy-off t (c .before .before), copy-start t (c .before .before), q .1 .3, q .1 .4, c .before .before .before .loop .inv .2 .room))
+
+copies-written-loop-again : (t : ℕ) → copies-written-lts.Need-loop-again (copies-written-uses t) (copies-written-at t) copies-written.Post copies-written-Inv-loop copies-written-μ-loop
+copies-written-loop-again t c =
+    let a = c .before .before .before .before .before .before .before .before .args in
+    let h = c .before .before .before .before .loop .h in
+    let L = copy t (c .before .before .before) in
+    let x = c .before .before .before .before .before .extent-in .result in
+    let kept = c .term-written .ensures .1 in (
+      omega arith,
+      written-same (ap (λ (y : ℕ). copiesOf y L) (sym (add-one h)))
+          (written-copy (a .at) (a .off) h L (x .size) (x .count) (copy-size t (c .before .before .before)) (copy-count t (c .before .before .before))
+          (written-kept kept (a .at) (copiesOf h L) (omega (arith, copies-end h L (x .count) (copy-count t (c .before .before .before)))) (c .before .before .before .before .loop .inv .1)) (c .term-written .ensures .0)),
+      kept-kept kept (a .at) (omega arith) (c .before .before .before .before .loop .inv .2),
+    )
+
+copies-written-returns : (t : ℕ) → copies-written-lts.Need-returns (copies-written-uses t) (copies-written-at t) copies-written.Post copies-written-Inv-loop copies-written-μ-loop
+copies-written-returns t c =
+    let e : c .before .loop .h ≡ c .before .before .before .before .before .args .many = (let l = c .before .loop .inv .0 in let m = c .loop-test .left in omega arith) in
+    (written-same (ap (λ (x : ℕ). copiesOf x (termLayout (now (c .before .before .before .before .before .args .f)) (c .before .before .before .before .before .args .k) (c .before .before .before .before .before .args .a))) e) (c .before .loop .inv .1), c .before .loop .inv .2)
+
+-- What is known of a field once its place is read, in plain names.
+module _ (t : ℕ) (c : struct-written-lts.After-place-of (struct-written-uses t) (struct-written-at t) struct-written.Post struct-written-Inv-loop struct-written-μ-loop) where
+  abbrev fld-f : List ℕ
+  fld-f = now (c .before .before .before .before .before .before .before .before .args .f)
+
+  abbrev fld-n : ℕ
+  fld-n = c .before .before .before .before .before .before .before .before .args .n
+
+  abbrev fld-N : ℕ
+  fld-N = c .before .before .before .before .before .before .before .before .args .number
+
+  abbrev fld-j : ℕ
+  fld-j = c .before .before .before .loop .j
+
+  fld-place : c .place-of .result ≡ fieldPlace fld-f fld-n fld-N fld-j
+  unfolding fieldPlace
+  fld-place = c .place-of .ensures .0 ∙ ap (placeOf fld-n) (c .before .entry-of .ensures .0 ∙ ap (λ (x : Record). entryOf x fld-j) (c .before .before .before .before .record-at2 .ensures))
+
+  fld-same : termLayout fld-f fld-N (c .place-of .result) ≡ field fld-f fld-n fld-N fld-j
+  fld-same = ap (termLayout fld-f fld-N) fld-place
+
+  fld-less : fld-j < fieldCount fld-f fld-n fld-N
+  fld-less = let e = ap (λ (x : Record). x .b) (c .before .before .before .before .before .record-at .ensures) in let h = c .before .before .loop-test .taken in omega arith
+
+  fld-fits : c .before .before .before .before .before .before .before .before .args .off + c .before .before .before .loop .size + termLayout fld-f fld-N (c .place-of .result) .size ≤ 256
+  fld-fits = subst (λ (L : Layout variable). c .before .before .before .before .before .before .before .before .args .off + c .before .before .before .loop .size + L .size ≤ 256) (sym fld-same)
+      (field-fits fld-f fld-n fld-N (c .before .before .before .before .before .before .before .before .pre .1 .4 .terms) (c .before .before .before .before .before .before .before .before .args .off) (c .before .before .before .before .before .before .before .before .args .at) (c .before .before .before .before .before .before .before .before .pre .1 .1) (c .before .before .before .before .before .before .before .before .pre .1 .2) fld-j (c .before .before .before .loop .size) (c .before .before .before .loop .count) fld-less (c .before .before .before .loop .inv .1) (c .before .before .before .loop .inv .2))
+
+  fld-room : c .before .before .before .before .before .before .before .before .args .at + c .before .before .before .loop .count + count (termLayout fld-f fld-N (c .place-of .result)) ≤ 256
+  fld-room = subst (λ (L : Layout variable). c .before .before .before .before .before .before .before .before .args .at + c .before .before .before .loop .count + count L ≤ 256) (sym fld-same)
+      (field-room fld-f fld-n fld-N (c .before .before .before .before .before .before .before .before .pre .1 .4 .terms) (c .before .before .before .before .before .before .before .before .args .off) (c .before .before .before .before .before .before .before .before .args .at) (c .before .before .before .before .before .before .before .before .pre .1 .1) (c .before .before .before .before .before .before .before .before .pre .1 .2) fld-j (c .before .before .before .loop .size) (c .before .before .before .loop .count) fld-less (c .before .before .before .loop .inv .1) (c .before .before .before .loop .inv .2))
+
+-- and once its extent is
+module _ (t : ℕ) (c : struct-written-lts.After-extent-in (struct-written-uses t) (struct-written-at t) struct-written.Post struct-written-Inv-loop struct-written-μ-loop) where
+  fld-extent : c .extent-in .result ≡ exactOf (termLayout (fld-f t (c .before .before .before .before)) (fld-N t (c .before .before .before .before)) (c .before .before .before .before .place-of .result))
+  fld-extent = c .extent-in .ensures ∙ c .before .before .before .before .before .before .before .before .before .before .before .before .pre .1 .4 .entries (c .before .before .before .before .place-of .result) (c .before .before .before .before .place-of .ensures .1) (let l = fld-fits t (c .before .before .before .before) in omega arith)
+
+  fld-size : c .extent-in .result .size ≡ termLayout (fld-f t (c .before .before .before .before)) (fld-N t (c .before .before .before .before)) (c .before .before .before .before .place-of .result) .size
+  fld-size = ap (λ (x : Extent). x .size) fld-extent
+
+  fld-count : c .extent-in .result .count ≡ count (termLayout (fld-f t (c .before .before .before .before)) (fld-N t (c .before .before .before .before)) (c .before .before .before .before .place-of .result))
+  fld-count = ap (λ (x : Extent). x .count) fld-extent
+
+struct-written-mul-first : (t : ℕ) → struct-written-lts.Need-mul-first (struct-written-uses t) (struct-written-at t) struct-written.Post struct-written-Inv-loop struct-written-μ-loop
+struct-written-mul-first t c = omega (arith, c .before .before .pre .1 .0)
+
+struct-written-add-first : (t : ℕ) → struct-written-lts.Need-add-first (struct-written-uses t) (struct-written-at t) struct-written.Post struct-written-Inv-loop struct-written-μ-loop
+struct-written-add-first t c = omega (arith, c .before .before .pre .1 .0, c .before .before .pre .1 .4 .terms .few)
+
+struct-written-add-record-at : (t : ℕ) → struct-written-lts.Need-add-record-at (struct-written-uses t) (struct-written-at t) struct-written.Post struct-written-Inv-loop struct-written-μ-loop
+struct-written-add-record-at t c = omega (arith, c .before .before .before .pre .1 .0, c .before .before .before .pre .1 .4 .terms .few)
+
+struct-written-loop-holds : (t : ℕ) → struct-written-lts.Need-loop-holds (struct-written-uses t) (struct-written-at t) struct-written.Post struct-written-Inv-loop struct-written-μ-loop
+unfolding firsts
+struct-written-loop-holds t c =
+    (omega arith, refl, refl, written-none (before (now (c .before .before .before .before .args .f)) (c .before .before .before .before .args .n) (c .before .before .before .before .args .number) 0) refl, kept-none (c .before .before .before .before .args .at) (c .before .before .before .before .pre .1 .5))
+
+struct-written-add-term-written : (t : ℕ) → struct-written-lts.Need-add-term-written (struct-written-uses t) (struct-written-at t) struct-written.Post struct-written-Inv-loop struct-written-μ-loop
+struct-written-add-term-written t c = omega (arith, fld-fits t c)
+
+struct-written-add-term-written-2 : (t : ℕ) → struct-written-lts.Need-add-term-written-2 (struct-written-uses t) (struct-written-at t) struct-written.Post struct-written-Inv-loop struct-written-μ-loop
+struct-written-add-term-written-2 t c = omega (arith, fld-room t (c .before .before))
+
+struct-written-term-written-requires : (t : ℕ) → struct-written-lts.Need-term-written-requires (struct-written-uses t) (struct-written-at t) struct-written.Post struct-written-Inv-loop struct-written-μ-loop
+struct-written-term-written-requires t c κs =
+    let q = c .before .before .before .before .before .before .before .before .before .before .pre in
+    (omega (arith, q .0, q .1 .4 .terms .few, c .before .before .place-of .ensures .1), (c .before .before .place-of .ensures .1, fld-fits t (c .before .before), fld-room t (c .before .before), q .1 .3, q .1 .4, c .before .before .before .before .before .loop .inv .4 .room))
+
+struct-written-add-size : (t : ℕ) → struct-written-lts.Need-add-size (struct-written-uses t) (struct-written-at t) struct-written.Post struct-written-Inv-loop struct-written-μ-loop
+struct-written-add-size t c = omega (arith, fld-fits t (c .before .before .before .before .before), fld-size t (c .before))
+
+struct-written-add-count : (t : ℕ) → struct-written-lts.Need-add-count (struct-written-uses t) (struct-written-at t) struct-written.Post struct-written-Inv-loop struct-written-μ-loop
+struct-written-add-count t c = omega (arith, fld-room t (c .before .before .before .before .before .before), fld-count t (c .before .before))
+
+struct-written-add-j : (t : ℕ) → struct-written-lts.Need-add-j (struct-written-uses t) (struct-written-at t) struct-written.Post struct-written-Inv-loop struct-written-μ-loop
+struct-written-add-j t c = omega (arith, c .before .before .before .before .before .before .before .before .loop-test .taken, c .before .before .before .before .before .before .before .before .before .before .before .record-at .ok)
+
+struct-written-loop-again : (t : ℕ) → struct-written-lts.Need-loop-again (struct-written-uses t) (struct-written-at t) struct-written.Post struct-written-Inv-loop struct-written-μ-loop
+struct-written-loop-again t c =
+    let a = c .before .before .before .before .before .before .before .before .before .before .before .before .before .before .args in
+    let l = c .before .before .before .before .before .before .before .before .before .loop in
+    let x = c .before .before .before .before .before .before in
+    let same = fld-same t x in
+    let s = size-next (now (a .f)) (a .n) (a .number) (c .before .before .before .before .before .before .before .before .before .before .before .before .before .before .pre .1 .4 .terms) (a .off) (a .at) (c .before .before .before .before .before .before .before .before .before .before .before .before .before .before .pre .1 .1) (c .before .before .before .before .before .before .before .before .before .before .before .before .before .before .pre .1 .2) (l .j) (l .size) (l .count) (fld-less t x) (l .inv .1) (l .inv .2) in
+    let m = count-next (now (a .f)) (a .n) (a .number) (c .before .before .before .before .before .before .before .before .before .before .before .before .before .before .pre .1 .4 .terms) (a .off) (a .at) (c .before .before .before .before .before .before .before .before .before .before .before .before .before .before .pre .1 .1) (c .before .before .before .before .before .before .before .before .before .before .before .before .before .before .pre .1 .2) (l .j) (l .size) (l .count) (fld-less t x) (l .inv .1) (l .inv .2) in (
+      omega arith,
+      ap (λ (y : ℕ). l .size + y) (fld-size t (c .before .before) ∙ ap (λ (L : Layout variable). L .size) same) ∙ s ∙ ap (λ (y : ℕ). before (now (a .f)) (a .n) (a .number) y .size) (sym (add-one (l .j))),
+      ap (λ (y : ℕ). l .count + y) (fld-count t (c .before .before) ∙ ap (λ (L : Layout variable). count L) same) ∙ m ∙ ap (λ (y : ℕ). count (before (now (a .f)) (a .n) (a .number) y)) (sym (add-one (l .j))),
+      written-same (ap (λ (y : ℕ). before (now (a .f)) (a .n) (a .number) y) (sym (add-one (l .j))))
+          (written-field (now (a .f)) (a .n) (a .number) (c .before .before .before .before .before .before .before .before .before .before .before .before .before .before .pre .1 .4 .terms) (a .off) (a .at) (c .before .before .before .before .before .before .before .before .before .before .before .before .before .before .pre .1 .1) (c .before .before .before .before .before .before .before .before .before .before .before .before .before .before .pre .1 .2) (l .j) (l .size) (l .count) (fld-less t x) (l .inv .1) (l .inv .2)
+          (written-kept (c .before .before .before .term-written .ensures .1) (a .at) (before (now (a .f)) (a .n) (a .number) (l .j)) (omega (arith, l .inv .2)) (l .inv .3))
+          (written-same same (c .before .before .before .term-written .ensures .0))),
+      kept-kept (c .before .before .before .term-written .ensures .1) (a .at) (omega arith) (l .inv .4),
+    )
+
+struct-written-returns : (t : ℕ) → struct-written-lts.Need-returns (struct-written-uses t) (struct-written-at t) struct-written.Post struct-written-Inv-loop struct-written-μ-loop
+struct-written-returns t c =
+    let a = c .before .before .before .before .before .before .args in
+    let l = c .before .loop in
+    let e : l .j ≡ fieldCount (now (a .f)) (a .n) (a .number) = (let b = ap (λ (x : Record). x .b) (c .before .before .before .record-at .ensures) in let h = c .loop-test .left in let m = l .inv .0 in omega arith) in (
+      written-same (ap (before (now (a .f)) (a .n) (a .number)) e ∙ sym (struct-fields (now (a .f)) (a .n) (a .number) (c .before .before .before .before .before .before .pre .1 .4 .terms))) (l .inv .3),
+      l .inv .4,
+    )
+
+-- What is known of a term once its core is read, in plain names.
+module _ (t : ℕ) (c : term-written-lts.After-core-in (term-written-uses t) (term-written-at t) term-written.Post) where
+  abbrev trm-f : List ℕ
+  trm-f = now (c .before .before .before .before .before .before .args .f)
+
+  abbrev trm-k : ℕ
+  trm-k = c .before .before .before .before .before .before .args .k
+
+  abbrev trm-p : ℕ
+  trm-p = c .core-in .result
+
+  trm-core : Core trm-f (c .before .before .before .before .before .before .args .p) trm-p
+  trm-core = subst (λ (x : ℕ). Core trm-f (c .before .before .before .before .before .before .args .p) x) (sym (c .core-in .ensures)) (c .before .before .before .before .before .before .pre .1 .4 .cores (c .before .before .before .before .before .before .args .p) (c .before .before .before .before .before .before .pre .1 .0))
+
+  trm-low : trm-p ≤ c .before .before .before .before .before .before .args .n
+  trm-low = let l = trm-core .low in omega (arith, c .before .before .before .before .before .before .pre .1 .0)
+
+  trm-same : termLayout trm-f trm-k (c .before .before .before .before .before .before .args .p) ≡ termLayout trm-f trm-k trm-p
+  trm-same = trm-core .same trm-k (let l = c .before .before .before .before .before .before .pre .1 .1 in omega arith)
+
+  trm-fits : c .before .before .before .before .before .before .args .off + termLayout trm-f trm-k trm-p .size ≤ 256
+  trm-fits = subst (λ (L : Layout variable). c .before .before .before .before .before .before .args .off + L .size ≤ 256) trm-same (c .before .before .before .before .before .before .pre .1 .1)
+
+  trm-room : c .before .before .before .before .before .before .args .at + count (termLayout trm-f trm-k trm-p) ≤ 256
+  trm-room = subst (λ (L : Layout variable). c .before .before .before .before .before .before .args .at + count L ≤ 256) trm-same (c .before .before .before .before .before .before .pre .1 .2)
+
+  trm-some : 0 < count (termLayout trm-f trm-k trm-p)
+  trm-some =
+      let e = ap (λ (x : Extent). x .count) (c .before .before .before .extent-in .ensures ∙ c .before .before .before .before .before .before .pre .1 .4 .entries (c .before .before .before .before .before .before .args .p) (c .before .before .before .before .before .before .pre .1 .0) (let l = c .before .before .before .before .before .before .pre .1 .1 in omega arith)) in
+      let s = ap (λ (L : Layout variable). count L) trm-same in
+      let z = c .before .if1 .left in
+      omega arith
+
+-- of an array
+module _ (t : ℕ) (c : term-written-lts.After-many (term-written-uses t) (term-written-at t) term-written.Post) where
+  arr-head : headOf (trm-f t (c .before .before .before)) (trm-p t (c .before .before .before)) ≡ Arr (c .many .given .0 .0) (c .many .given .0 .1 .0)
+  arr-head = sym (c .before .before .head-of .ensures .0) ∙ c .many .given .1
+
+  arr-is : termLayout (trm-f t (c .before .before .before)) (trm-k t (c .before .before .before)) (trm-p t (c .before .before .before)) ≡ copiesOf (c .many .given .0 .0) (termLayout (trm-f t (c .before .before .before)) (trm-k t (c .before .before .before)) (c .many .given .0 .1 .0))
+  arr-is = arr-layout (trm-f t (c .before .before .before)) (trm-k t (c .before .before .before)) (trm-p t (c .before .before .before)) (c .before .before .before .before .before .before .before .before .before .args .off) 0 (c .before .before .before .before .before .before .before .before .before .args .t5) _ _ arr-head (trm-fits t (c .before .before .before)) (trm-some t (c .before .before .before))
+
+term-written-returns : (t : ℕ) → term-written-lts.Need-returns (term-written-uses t) (term-written-at t) term-written.Post
+term-written-returns t c =
+    let a = c .before .before .before .before .before .args in
+    let e = ap (λ (x : Extent). x .count) (c .before .before .extent-in .ensures ∙ c .before .before .before .before .before .pre .1 .4 .entries (a .p) (c .before .before .before .before .before .pre .1 .0) (let l = c .before .before .before .before .before .pre .1 .1 in omega arith)) in
+    (written-none (termLayout (now (a .f)) (a .k) (a .p)) (sym e ∙ c .if1 .taken), kept-none (a .at) (c .before .before .before .before .before .pre .1 .5))
+
+term-written-copies-written-requires : (t : ℕ) → term-written-lts.Need-copies-written-requires (term-written-uses t) (term-written-at t) term-written.Post
+term-written-copies-written-requires t c κs =
+    let q = c .before .before .before .before .before .before .before .before .before .before .before .before .pre in
+    let L = termLayout (trm-f t (c .before .before .before .before .before .before)) (trm-k t (c .before .before .before .before .before .before)) (c .before .before .before .many .given .0 .1 .0) in
+    let n = c .before .before .before .many .given .0 .0 in
+    let e = arr-is t (c .before .before .before) in
+    let s = ap (λ (M : Layout variable). M .size) e in
+    let m = ap (λ (M : Layout variable). count M) e in
+    let l = fair-at (trm-p t (c .before .before .before .before .before .before)) _ _ (c .before .before .before .before .before .head-of .ensures .1) (c .before .before .before .many .given .1) .0 in
+    let w = trm-core t (c .before .before .before .before .before .before) .low in (
+      omega (arith, q .0),
+      (omega (arith, q .1 .0), omega (arith, trm-fits t (c .before .before .before .before .before .before), size-copiesOf n L), omega (arith, trm-room t (c .before .before .before .before .before .before), count-copiesOf n L), q .1 .3, q .1 .4, q .1 .5),
+    )
+
+term-written-returns-2 : (t : ℕ) → term-written-lts.Need-returns-2 (term-written-uses t) (term-written-at t) term-written.Post
+term-written-returns-2 t c =
+    (written-same (sym (trm-same t (c .before .before .before .before .before .before .before) ∙ arr-is t (c .before .before .before .before))) (c .copies-written .ensures .0), c .copies-written .ensures .1)
+
+term-written-arguments-requires : (t : ℕ) → term-written-lts.Need-arguments-requires (term-written-uses t) (term-written-at t) term-written.Post
+term-written-arguments-requires t c κs = subst Few (sym (c .before .before .before .before .before .head-of .ensures .0) ∙ c .before .before .before .number .given .1) (c .before .before .before .before .before .before .before .before .before .before .before .before .pre .1 .4 .few (trm-p t (c .before .before .before .before .before .before)) (trm-low t (c .before .before .before .before .before .before)))
+
+term-written-struct-written-requires : (t : ℕ) → term-written-lts.Need-struct-written-requires (term-written-uses t) (term-written-at t) term-written.Post
+term-written-struct-written-requires t c κs =
+    let a = c .before .before .before .before .before .before .before .before .before .before .before .before .before .before .before .args in
+    let q = c .before .before .before .before .before .before .before .before .before .before .before .before .before .before .before .pre in
+    let x = c .before .before .before .before .before .before .before .before .before in
+    let head = sym (c .before .before .before .before .before .before .before .before .head-of .ensures .0) ∙ c .before .before .before .before .before .before .number .given .1 in
+    let l = c .before .before .before .before .if2 .taken in
+    let s = struct-size (now (a .f)) (a .k) (trm-p t x) (a .off) 0 (a .t5) _ _ _ head l in
+    let m = struct-count (now (a .f)) (a .k) (trm-p t x) (a .off) 0 (a .t5) _ _ _ head l in
+    let w = fair-at (trm-p t x) _ _ (c .before .before .before .before .before .before .before .before .head-of .ensures .1) (c .before .before .before .before .before .before .number .given .1) .0 in (
+      omega (arith, q .0),
+      (
+        w,
+        omega (arith, trm-fits t x),
+        omega (arith, trm-room t x),
+        keeps-args (a .t5) (c .before .before .arguments .result) _ _ (subst Few head (q .1 .4 .few (trm-p t x) (trm-low t x))) (c .before .before .arguments .ensures),
+        known-less (now (a .f)) (a .n) _ (a .k) (now (a .tab)) (omega arith) (q .1 .4),
+        q .1 .5,
+      ),
+    )
+
+term-written-returns-3 : (t : ℕ) → term-written-lts.Need-returns-3 (term-written-uses t) (term-written-at t) term-written.Post
+term-written-returns-3 t c =
+    let a = c .before .before .before .before .before .before .before .before .before .before .before .before .before .before .before .before .args in
+    let x = c .before .before .before .before .before .before .before .before .before .before in
+    let head = sym (c .before .before .before .before .before .before .before .before .before .head-of .ensures .0) ∙ c .before .before .before .before .before .before .before .number .given .1 in
+    let l = c .before .before .before .before .before .if2 .taken in (
+      written-same (sym (trm-same t x))
+          (written-struct (a .k) (trm-p t x) _ _ _ head l (c .before .before .before .arguments .result) (c .before .before .before .before .before .before .before .before .before .before .before .before .before .before .before .before .pre .1 .3) (c .before .before .before .arguments .ensures)
+          (struct-count (now (a .f)) (a .k) (trm-p t x) (a .off) 0 (a .t5) _ _ _ head l) (c .struct-written .ensures .0)),
+      c .struct-written .ensures .1,
+    )
+
+term-written-returns-4 : (t : ℕ) → term-written-lts.Need-returns-4 (term-written-uses t) (term-written-at t) term-written.Post
+term-written-returns-4 t c =
+    let a = c .before .before .before .before .before .before .before .before .before .before .before .args in (
+      written-same (sym (trm-same t (c .before .before .before .before .before))) (written-unknown (a .k) (trm-p t (c .before .before .before .before .before)) _ _ _ (sym (c .before .before .before .before .head-of .ensures .0) ∙ c .before .before .number .given .1) (c .if2 .left)),
+      kept-none (a .at) (c .before .before .before .before .before .before .before .before .before .before .before .pre .1 .5),
+    )
+
+term-written-put-requires : (t : ℕ) → term-written-lts.Need-put-requires (term-written-uses t) (term-written-at t) term-written.Post
+term-written-put-requires t c κs =
+    let x = c .before .before .before .before .before in
+    (omega (arith, trm-room t x, trm-some t x), omega (arith, trm-low t x, c .before .before .before .before .before .before .before .before .before .before .before .pre .1 .4 .terms .few), omega (arith, trm-fits t x))
+
+term-written-put-requires-2 : (t : ℕ) → term-written-lts.Need-put-requires-2 (term-written-uses t) (term-written-at t) term-written.Post
+term-written-put-requires-2 t c κs =
+    let x = c .before .before .before .before .before in
+    (omega (arith, trm-room t x, trm-some t x), omega (arith, trm-low t x, c .before .before .before .before .before .before .before .before .before .before .before .pre .1 .4 .terms .few), omega (arith, trm-fits t x))
+
+term-written-returns-5 : (t : ℕ) → term-written-lts.Need-returns-5 (term-written-uses t) (term-written-at t) term-written.Post
+term-written-returns-5 t c =
+    let a = c .before .before .before .before .before .before .before .before .before .before .before .before .args in
+    let x = c .before .before .before .before .before .before in
+    let w = put-single (c .before .before .before .before .before .before .before .before .before .before .before .before .pre .1 .5) (a .at) (trm-p t x) (a .t5) (a .off) (omega (arith, trm-room t x, trm-some t x)) (omega (arith, trm-fits t x)) (now (a .f)) (a .k) _
+    (single-int (now (a .f)) (a .k) (trm-p t x) (a .off) 0 (a .t5) _ (sym (c .before .before .before .before .before .head-of .ensures .0) ∙ c .before .before .before .enum-told .given .1)) (c .put .ensures .0) (c .put .ensures .1) in
+    (written-same (sym (trm-same t x)) (w .0), w .1)
+
+term-written-returns-6 : (t : ℕ) → term-written-lts.Need-returns-6 (term-written-uses t) (term-written-at t) term-written.Post
+term-written-returns-6 t c =
+    let a = c .before .before .before .before .before .before .before .before .before .before .before .before .args in
+    let x = c .before .before .before .before .before .before in
+    let w = put-single (c .before .before .before .before .before .before .before .before .before .before .before .before .pre .1 .5) (a .at) (trm-p t x) (a .t5) (a .off) (omega (arith, trm-room t x, trm-some t x)) (omega (arith, trm-fits t x)) (now (a .f)) (a .k) _
+    (single-ptr (now (a .f)) (a .k) (trm-p t x) (a .off) 0 (a .t5) _ _ (sym (c .before .before .before .before .before .head-of .ensures .0) ∙ c .before .before .before .enum-told2 .given .1)) (c .put2 .ensures .0) (c .put2 .ensures .1) in
+    (written-same (sym (trm-same t x)) (w .0), w .1)
+
+pub +copies-written+struct-written+term-written-spec : {M : Type 1} → statement M
++copies-written+struct-written+term-written-spec =
+    close μ-copies-written μ-struct-written μ-term-written (λ t. copies-written-lts.spec (copies-written-uses t)
+    (copies-written-at t)
+    copies-written.Post
+    copies-written-Inv-loop
+    copies-written-μ-loop
+    (λ c κs. search needs)
+    (copies-written-loop-holds t)
+    (copies-written-mul-term-written t)
+    (copies-written-add-term-written t)
+    (copies-written-mul-term-written-2 t)
+    (copies-written-add-term-written-2 t)
+    (copies-written-term-written-requires t)
+    (λ c. search needs)
+    (λ c. search needs)
+    (copies-written-loop-again t)
+    (copies-written-returns t))
+    (λ t. struct-written-lts.spec (struct-written-uses t)
+    (struct-written-at t)
+    struct-written.Post
+    struct-written-Inv-loop
+    struct-written-μ-loop
+    (struct-written-mul-first t)
+    (struct-written-add-first t)
+    (λ c κs. search needs)
+    (struct-written-add-record-at t)
+    (λ c κs. search needs)
+    (struct-written-loop-holds t)
+    (λ c. search needs)
+    (λ c κs. search needs)
+    (λ c κs. search needs)
+    (struct-written-add-term-written t)
+    (struct-written-add-term-written-2 t)
+    (struct-written-term-written-requires t)
+    (λ c κs. search needs)
+    (struct-written-add-size t)
+    (struct-written-add-count t)
+    (struct-written-add-j t)
+    (λ c. search needs)
+    (struct-written-loop-again t)
+    (struct-written-returns t))
+    λ t. term-written-lts.spec (term-written-uses t)
+    (term-written-at t)
+    term-written.Post
+    (λ c κs. search needs)
+    (term-written-returns t)
+    (λ c κs. search needs)
+    (λ c κs. search needs)
+    (λ c. search needs)
+    (term-written-copies-written-requires t)
+    (λ c. search needs)
+    (λ c. search needs)
+    (term-written-arguments-requires t)
+    (term-written-struct-written-requires t)
+    (λ c. search needs)
+    (term-written-put-requires t)
+    (λ c. search needs)
+    (term-written-put-requires-2 t)
+    (term-written-returns-2 t)
+    (term-written-returns-3 t)
+    (term-written-returns-4 t)
+    (term-written-returns-5 t)
+    (term-written-returns-6 t)

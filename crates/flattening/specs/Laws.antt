@@ -1,0 +1,168 @@
+-- Terms written out: an entry, one layout after another, copies and fields. Assumes nothing.
+use mathlib.Core.Path.{_≡_, refl, sym, ap, _∙_, subst}
+use mathlib.Core.Logic.{⊎-elim}
+use mathlib.Core.List.{List, []}
+use Prim.Native.Nat.{ℕ, suc, _+_, _-_, _*_, _/_, _%_, _≤_, _<_}
+use native.Mathlib.Nat.{mul-le-mul-right}
+use native.Mathlib.Omega.{arith}
+use lib.ListN.{getD, set, replicate, length-set, length-replicate}
+use lib.Seq.{getD-set-same, getD-set-other}
+use Rattle.words.specs.Bytes.{Bytes}
+use Rattle.words.specs.Choose.{lt-or-le}
+use Rattle.rules.specs.Types.{variable}
+use Rattle.rules.specs.Flat.{Placed, Layout, count, single, moved, packed, copiesOf, placedIn}
+use Rattle.layout.specs.Prims.{nth, moved-moved, placed-moved, count-packed, count-copiesOf}
+use Rattle.layout.specs.Runs.{nth-left, nth-right, nth-copies as nth-copy}
+use Rattle.terms.specs.Compare.{byteUnder, under}
+use Rattle.terms.specs.Extents.{Terms, fieldCount}
+use Rattle.terms.specs.Heads.{treeAt, headOf}
+use Rattle.terms.specs.declared.Head.the-variants.{Struct}
+use Rattle.positions.specs.Table.{termLayout, structLayout}
+use Rattle.positions.specs.Positions.{Keeps, argByte, Found, found-single, found-struct, struct-none, nth-copies, before, field, struct-fields, more-packed, fits-below, count-below, size-below}
+use Rattle.positions.specs.declared.Primitive.{Primitive}
+use Rattle.flattening.specs.Written.{entryOf, Room, Written, Kept}
+
+-- ---- entries
+
+pub room-fresh : (x : Bytes) → Room (replicate 256 x) (replicate 256 0)
+room-fresh x = record { subs-are = length-replicate 256 x; spots-are = length-replicate {A = ℕ} 256 0 }
+
+module _ {subs : List Bytes} {spots : List ℕ} (room : Room subs spots) (at place : ℕ) (to : Bytes) (off : ℕ) (h : at < 256) (l : off ≤ 256) where
+  entry-put : entryOf (set subs at to) (set spots at (off + 1024 * place)) at ≡ record { off = off; place = place; to = to }
+  entry-put =
+      let s : getD (set spots at (off + 1024 * place)) at 0 ≡ off + 1024 * place = getD-set-same spots at (off + 1024 * place) 0 (omega (arith, room .spots-are)) in
+      let b : getD (set subs at to) at [] ≡ to = getD-set-same subs at to [] (omega (arith, room .subs-are)) in
+      let m : (off + 1024 * place) % 1024 ≡ off = omega arith in
+      let d : (off + 1024 * place) / 1024 ≡ place = omega arith in
+      rw (s, b, m, d)
+
+  kept-put : Kept subs spots (set subs at to) (set spots at (off + 1024 * place)) at
+  kept-put = record {
+    room = record { subs-are = length-set subs at to ∙ room .subs-are; spots-are = length-set spots at (off + 1024 * place) ∙ room .spots-are };
+    below = λ j m.
+        let s : getD (set spots at (off + 1024 * place)) j 0 ≡ getD spots j 0 = getD-set-other spots at j (off + 1024 * place) 0 (λ e. omega arith) in
+        let b : getD (set subs at to) j [] ≡ getD subs j [] = getD-set-other subs at j to [] (λ e. omega arith) in
+        rw (s, b);
+  }
+
+  written-put : (f : Bytes) (k w : ℕ) → termLayout f k place ≡ single w (treeAt f place)
+      → Written f (set subs at to) (set spots at (off + 1024 * place)) at to off (termLayout f k place)
+  written-put f k w is = record {
+    each = λ i m.
+        let e : at + i ≡ at = omega (arith, m, ap (λ (L : Layout variable). count L) is) in
+        subst (λ (r : Primitive). Found f r to off (nth (termLayout f k place) i)) (sym (ap (entryOf (set subs at to) (set spots at (off + 1024 * place))) e ∙ entry-put)) (found-single f k place off i to w is m);
+  }
+
+  -- an integer or a pointer is one entry
+  pub put-single : (f : Bytes) (k w : ℕ) {subs' : List Bytes} {spots' : List ℕ} → termLayout f k place ≡ single w (treeAt f place)
+      → subs' ≡ set subs at to → spots' ≡ set spots at (off + 1024 * place) → (Written f subs' spots' at to off (termLayout f k place)) × (Kept subs spots subs' spots' at)
+  put-single f k w is e g = rw (e, g) (written-put f k w is, kept-put)
+
+pub written-none : {f : Bytes} {subs : List Bytes} {spots : List ℕ} {at : ℕ} {to : Bytes} {off : ℕ} (L : Layout variable) → count L ≡ 0 → Written f subs spots at to off L
+written-none L e = record { each = λ i m. absurd (omega arith) }
+
+pub kept-none : {subs : List Bytes} {spots : List ℕ} (at : ℕ) → Room subs spots → Kept subs spots subs spots at
+kept-none at room = record { room = room; below = λ j m. refl }
+
+pub written-same : {f : Bytes} {subs : List Bytes} {spots : List ℕ} {at : ℕ} {to : Bytes} {off : ℕ} {L M : Layout variable} → L ≡ M → Written f subs spots at to off L → Written f subs spots at to off M
+written-same {f} {subs} {spots} {at} {to} {off} e w = subst (λ (L : Layout variable). Written f subs spots at to off L) e w
+
+-- what is written later keeps what was written before
+module _ {subs subs' : List Bytes} {spots spots' : List ℕ} {at' : ℕ} (then : Kept subs spots subs' spots' at') where
+  pub kept-kept : {subs₀ : List Bytes} {spots₀ : List ℕ} (at : ℕ) → at ≤ at' → Kept subs₀ spots₀ subs spots at → Kept subs₀ spots₀ subs' spots' at
+  kept-kept at l k = record { room = then .room; below = λ j m. then .below j (omega arith) ∙ k .below j m }
+
+  pub written-kept : {f : Bytes} (at : ℕ) {to : Bytes} {off : ℕ} (L : Layout variable) → at + count L ≤ at' → Written f subs spots at to off L → Written f subs' spots' at to off L
+  written-kept {f} at {to} {off} L l w = record {
+    each = λ i m. subst (λ (r : Primitive). Found f r to off (nth L i)) (sym (then .below (at + i) (omega arith))) (w .each i m);
+  }
+
+-- ---- one layout after another
+
+found-moved : (f : Bytes) (r : Primitive) (to : Bytes) (off x : ℕ) (P : Placed variable) → Found f r to (off + x) P → Found f r to off (moved x P)
+found-moved f r to off x P found k = found k ∙ sym (moved-moved off x (placedIn (under {k = k} to) P)) ∙ ap (moved off) (sym (placed-moved (under {k = k} to) x P))
+
+module _ {f : Bytes} {subs : List Bytes} {spots : List ℕ} (at : ℕ) {to : Bytes} (off : ℕ) where
+  written-packed : (A B : Layout variable) → Written f subs spots at to off A → Written f subs spots (at + count A) to (off + A .size) B → Written f subs spots at to off (packed A B)
+  written-packed A B a b = record { each = λ i m. ⊎-elim (left i) (right i m) (lt-or-le i (count A)) }
+    where
+      left : (i : ℕ) → i < count A → Found f (entryOf subs spots (at + i)) to off (nth (packed A B) i)
+      left i l = subst (λ (P : Placed variable). Found f (entryOf subs spots (at + i)) to off P) (sym (nth-left A B i l)) (a .each i l)
+
+      right : (i : ℕ) → i < count (packed A B) → count A ≤ i → Found f (entryOf subs spots (at + i)) to off (nth (packed A B) i)
+      right i m l =
+          let s : i - count A < count B = omega (arith, count-packed A B) in
+          let e : count A + (i - count A) ≡ i = omega arith in
+          let p : at + count A + (i - count A) ≡ at + i = omega arith in
+          let found = found-moved f (entryOf subs spots (at + i)) to off (A .size) (nth B (i - count A)) (subst (λ (x : ℕ). Found f (entryOf subs spots x) to (off + A .size) (nth B (i - count A))) p (b .each (i - count A) s)) in
+          subst (λ (P : Placed variable). Found f (entryOf subs spots (at + i)) to off P) (sym (ap (nth (packed A B)) (sym e) ∙ nth-right A B (i - count A) s)) found
+
+  -- one copy more
+  pub written-copy : (h : ℕ) (L : Layout variable) (sz cnt : ℕ) → sz ≡ L .size → cnt ≡ count L → Written f subs spots at to off (copiesOf h L) → Written f subs spots (at + h * cnt) to (off + h * sz) L
+      → Written f subs spots at to off (copiesOf (suc h) L)
+  written-copy h L sz cnt is-size is-count a w = record { each = λ i m. ⊎-elim (left i m) (right i m) (lt-or-le i (h * count L)) }
+    where
+      b : Written f subs spots (at + h * count L) to (off + h * L .size) L
+      b = rw (is-size, is-count) at w
+
+      some : (i : ℕ) → i < count (copiesOf (suc h) L) → 0 < count L
+      some i m = ⊎-elim (λ l. l) (λ l. absurd (let z : count L ≡ 0 = omega arith in let w : i < suc h * 0 = subst (λ (x : ℕ). i < suc h * x) z (omega (arith, count-copiesOf (suc h) L)) in omega arith)) (lt-or-le 0 (count L))
+
+      left : (i : ℕ) → i < count (copiesOf (suc h) L) → i < h * count L → Found f (entryOf subs spots (at + i)) to off (nth (copiesOf (suc h) L) i)
+      left i m l =
+          let e : nth (copiesOf (suc h) L) i ≡ nth (copiesOf h L) i = nth-copies (suc h) L i (some i m) (omega arith) ∙ sym (nth-copies h L i (some i m) l) in
+          subst (λ (P : Placed variable). Found f (entryOf subs spots (at + i)) to off P) (sym e) (a .each i (omega (arith, count-copiesOf h L)))
+
+      right : (i : ℕ) → i < count (copiesOf (suc h) L) → h * count L ≤ i → Found f (entryOf subs spots (at + i)) to off (nth (copiesOf (suc h) L) i)
+      right i m l =
+          let s : i - h * count L < count L = omega (arith, count-copiesOf (suc h) L) in
+          let e : h * count L + (i - h * count L) ≡ i = omega arith in
+          let p : at + h * count L + (i - h * count L) ≡ at + i = omega arith in
+          let found = found-moved f (entryOf subs spots (at + i)) to off (h * L .size) (nth L (i - h * count L)) (subst (λ (x : ℕ). Found f (entryOf subs spots x) to (off + h * L .size) (nth L (i - h * count L))) p (b .each (i - h * count L) s)) in
+          subst (λ (P : Placed variable). Found f (entryOf subs spots (at + i)) to off P) (sym (ap (nth (copiesOf (suc h) L)) (sym e) ∙ nth-copy (suc h) L h (i - h * count L) (omega arith) s)) found
+
+pub copies-end : (h : ℕ) (L : Layout variable) (cnt : ℕ) → cnt ≡ count L → count (copiesOf h L) ≡ h * cnt
+copies-end h L cnt e = count-copiesOf h L ∙ ap (λ (x : ℕ). h * x) (sym e)
+
+-- there is room for copy h
+pub copy-room : (x many h s : ℕ) → h < many → x + many * s ≤ 256 → x + h * s + s ≤ 256
+copy-room x many h s l r = let m : suc h * s ≤ many * s = mul-le-mul-right s l in omega arith
+
+-- ---- by the head
+
+module _ {f : Bytes} {subs : List Bytes} {spots : List ℕ} {at : ℕ} {to : Bytes} {off : ℕ} (k p : ℕ) where
+  pub written-struct : (N c d : ℕ) → headOf f p ≡ Struct N c d → N < k → (inside : Bytes) → Keeps to → ((v : ℕ) → byteUnder inside v ≡ argByte to d c v)
+      → count (structLayout f N) ≡ count (termLayout f k p) → Written f subs spots at inside off (structLayout f N) → Written f subs spots at to off (termLayout f k p)
+  written-struct N c d e l inside keeps h same w =
+      record { each = λ i m. found-struct f k p off i to N c d e l inside keeps h (entryOf subs spots (at + i)) (w .each i (omega arith)) }
+
+  pub written-unknown : (N c d : ℕ) → headOf f p ≡ Struct N c d → k ≤ N → Written f subs spots at to off (termLayout f k p)
+  written-unknown N c d e l = record { each = λ i m. absurd (struct-none f k p off i to N c d e l m) }
+
+-- ---- field by field
+
+module _ (f : Bytes) (n N : ℕ) (is : Terms f n) (off at : ℕ) (fits : off + structLayout f N .size ≤ 256) (room : at + count (structLayout f N) ≤ 256)
+    (j sz cnt : ℕ) (less : j < fieldCount f n N) (is-size : sz ≡ before f n N j .size) (is-count : cnt ≡ count (before f n N j)) where
+  all-fit : before f n N (fieldCount f n N) .size ≤ 256
+  all-fit = omega (arith, fits, ap (λ (L : Layout variable). L .size) (struct-fields f n N is))
+
+  next : before f n N (suc j) ≡ packed (before f n N j) (field f n N j)
+  next = more-packed f n N j (fits-below f n N (suc j) (fieldCount f n N) less all-fit)
+
+  pub size-next : sz + field f n N j .size ≡ before f n N (suc j) .size
+  size-next = omega (arith, is-size, ap (λ (L : Layout variable). L .size) next)
+
+  pub count-next : cnt + count (field f n N j) ≡ count (before f n N (suc j))
+  count-next = omega (arith, is-count, ap (λ (L : Layout variable). count L) next, count-packed (before f n N j) (field f n N j))
+
+  pub field-fits : off + sz + field f n N j .size ≤ 256
+  field-fits = omega (arith, fits, size-next, ap (λ (L : Layout variable). L .size) (struct-fields f n N is), size-below f n N (suc j) (fieldCount f n N) less all-fit)
+
+  pub field-room : at + cnt + count (field f n N j) ≤ 256
+  field-room = omega (arith, room, count-next, ap (λ (L : Layout variable). count L) (struct-fields f n N is), count-below f n N (suc j) (fieldCount f n N) less all-fit)
+
+  pub written-field : {subs : List Bytes} {spots : List ℕ} {to : Bytes} → Written f subs spots at to off (before f n N j) → Written f subs spots (at + cnt) to (off + sz) (field f n N j)
+      → Written f subs spots at to off (before f n N (suc j))
+  written-field {subs} {spots} {to} a b =
+      subst (λ (L : Layout variable). Written f subs spots at to off L) (sym next)
+      (written-packed at off (before f n N j) (field f n N j) a (rw (is-size, is-count) at b))

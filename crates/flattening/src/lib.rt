@@ -1,0 +1,160 @@
+// Terms written out: every primitive of a term, found in one walk over it, so that a long run is compared without a descent for each.
+// An entry of `subs` is what stands for each variable; that of `spots` is the place of the primitive's term and its distance.
+ghost use mathlib.Core.Path.{_≡_};
+ghost use Prim.Native.Nat.{_+_, _*_, _<_, _≤_};
+ghost use lib.ListN.{set};
+ghost use Rattle.rules.specs.Flat.{count, copiesOf};
+ghost use Rattle.positions.specs.Table.{Known, termLayout, structLayout};
+ghost use Rattle.positions.specs.Positions.{Keeps};
+ghost use Rattle.flattening.specs.Written.{entryOf, Room, Written, Kept};
+use positions::Primitive;
+use terms::Head;
+
+// ---- entries
+
+// Entry `at` is the primitive at this place and distance under `to`.
+fn put(
+    subs: &mut [[u8; 8]; 256],
+    spots: &mut [u64; 256],
+    at: usize,
+    place: usize,
+    to: [u8; 8],
+    off: usize,
+)
+    requires { ⌜ (at < 256) × (place ≤ 256) × (off ≤ 256) ⌝ }
+    ensures { λ _. ⌜ (now (subs .exit) ≡ set (now (subs .entry)) at to) × (now (spots .exit) ≡ set (now (spots .entry)) at (off + 1024 * place)) ⌝ }
+{
+    subs[at] = to;
+    spots[at] = (off + 1024 * place) as u64;
+}
+
+// Entry j.
+pub fn entry(subs: &[[u8; 8]; 256], spots: &[u64; 256], j: usize) -> Primitive
+    requires { ⌜ j < 256 ⌝ }
+    ensures { λ r. ⌜ r ≡ entryOf (now (subs .entry)) (now (spots .entry)) j ⌝ }
+{
+    let x = spots[j];
+    let to = subs[j];
+    Primitive {
+        off: (x % 1024) as usize,
+        place: (x / 1024) as usize,
+        to,
+    }
+}
+
+// ---- writing out: functions in a cycle, as those of positions
+
+// The primitives of the term at place p, which lies off bytes into something of at most 256, from entry `at` on.
+pub fn term_written(
+    f: &[u8],
+    n: usize,
+    k: usize,
+    p: usize,
+    to: [u8; 8],
+    off: usize,
+    subs: &mut [[u8; 8]; 256],
+    spots: &mut [u64; 256],
+    at: usize,
+    tab: &[u64],
+)
+    requires { do let L = termLayout (now f) k p in ⌜ (p ≤ n) × (off + L .size ≤ 256) × (at + count L ≤ 256) × (Keeps to) × (Known (now f) n k (now tab)) × (Room (now subs) (now spots)) ⌝ }
+    ensures { λ _. ⌜ (Written (now (f .entry)) (now (subs .exit)) (now (spots .exit)) at to off (termLayout (now (f .entry)) k p)) × (Kept (now (subs .entry)) (now (spots .entry)) (now (subs .exit)) (now (spots .exit)) at) ⌝ }
+{
+    let e = positions::extent_in(tab, p);
+    if e.count == 0 {
+        return;
+    }
+    let c = positions::core_in(tab, p);
+    match terms::head_of(f, c) {
+        Head::Arr(many, a) => copies_written(f, n, k, a, to, off, many, subs, spots, at, tab),
+        Head::Struct(number, count, d) => {
+            if number < k {
+                let inside = positions::arguments(d, count, &to);
+                struct_written(f, n, number, inside, off, subs, spots, at, tab);
+            }
+        }
+        Head::Int(_) => put(subs, spots, at, c, to, off),
+        Head::Ptr(_, _) => put(subs, spots, at, c, to, off),
+    }
+}
+
+// The primitives of `many` copies of the term at place a.
+fn copies_written(
+    f: &[u8],
+    n: usize,
+    k: usize,
+    a: usize,
+    to: [u8; 8],
+    off: usize,
+    many: usize,
+    subs: &mut [[u8; 8]; 256],
+    spots: &mut [u64; 256],
+    at: usize,
+    tab: &[u64],
+)
+    requires { do let L = termLayout (now f) k a in ⌜ (a ≤ n) × (off + many * L .size ≤ 256) × (at + many * count L ≤ 256) × (Keeps to) × (Known (now f) n k (now tab)) × (Room (now subs) (now spots)) ⌝ }
+    ensures { λ _. ⌜ (Written (now (f .entry)) (now (subs .exit)) (now (spots .exit)) at to off (copiesOf many (termLayout (now (f .entry)) k a))) × (Kept (now (subs .entry)) (now (spots .entry)) (now (subs .exit)) (now (spots .exit)) at) ⌝ }
+{
+    let e = positions::extent_in(tab, a);
+    let size = e.size;
+    let count = e.count;
+    let mut h = 0;
+    while h < many {
+        term_written(
+            f,
+            n,
+            k,
+            a,
+            to,
+            off + h * size,
+            subs,
+            spots,
+            at + h * count,
+            tab,
+        );
+        h += 1;
+    }
+}
+
+// The primitives of a struct, field by field.
+fn struct_written(
+    f: &[u8],
+    n: usize,
+    number: usize,
+    to: [u8; 8],
+    off: usize,
+    subs: &mut [[u8; 8]; 256],
+    spots: &mut [u64; 256],
+    at: usize,
+    tab: &[u64],
+)
+    requires { do let L = structLayout (now f) number in ⌜ (number < 256) × (off + L .size ≤ 256) × (at + count L ≤ 256) × (Keeps to) × (Known (now f) n number (now tab)) × (Room (now subs) (now spots)) ⌝ }
+    ensures { λ _. ⌜ (Written (now (f .entry)) (now (subs .exit)) (now (spots .exit)) at to off (structLayout (now (f .entry)) number)) × (Kept (now (subs .entry)) (now (spots .entry)) (now (subs .exit)) (now (spots .exit)) at) ⌝ }
+{
+    let first = n + 2 * number;
+    let x = walk::file::record_at(f, first);
+    let y = walk::file::record_at(f, first + 1);
+    let fields = x.b;
+    let mut size = 0;
+    let mut count = 0;
+    let mut j: u8 = 0;
+    while j < fields {
+        let p = terms::place_of(n, walk::file::entry_of(y, j as usize));
+        term_written(
+            f,
+            n,
+            number,
+            p,
+            to,
+            off + size,
+            subs,
+            spots,
+            at + count,
+            tab,
+        );
+        let e = positions::extent_in(tab, p);
+        size = size + e.size;
+        count = count + e.count;
+        j += 1;
+    }
+}
