@@ -3,24 +3,24 @@ use mathlib.Core.Path.{_≡_, refl, sym, ap, _∙_, subst}
 use mathlib.Core.Logic.{⊎-elim}
 use mathlib.Core.List.{List, []}
 use Prim.Native.Nat.{ℕ, suc, _+_, _-_, _*_, _/_, _%_, _≤_, _<_}
-use native.Mathlib.Nat.{mul-le-mul-right}
+use native.Mathlib.Nat.{add-comm, mul-le-mul-right}
 use native.Mathlib.Omega.{arith}
 use lib.ListN.{getD, set, replicate, length-set, length-replicate}
 use lib.Seq.{getD-set-same, getD-set-other}
 use Rattle.words.specs.Bytes.{Bytes}
 use Rattle.words.specs.Choose.{lt-or-le}
-use Rattle.rules.specs.Types.{variable}
-use Rattle.rules.specs.Flat.{Placed, Layout, count, single, moved, packed, copiesOf, placedIn}
-use Rattle.layout.specs.Prims.{nth, moved-moved, placed-moved, count-packed, count-copiesOf}
+use Rattle.rules.specs.Types.{variable, sub}
+use Rattle.rules.specs.Flat.{Placed, at as placed, Layout, count, single, moved, packed, copiesOf, placedIn}
+use Rattle.layout.specs.Prims.{nth, moved-moved, placed-moved, count-packed, count-copiesOf, size-copiesOf}
 use Rattle.layout.specs.Runs.{nth-left, nth-right, nth-copies as nth-copy}
 use Rattle.terms.specs.Compare.{byteUnder, under}
 use Rattle.terms.specs.Extents.{Terms, fieldCount}
 use Rattle.terms.specs.Heads.{treeAt, headOf}
 use Rattle.terms.specs.declared.Head.the-variants.{Struct}
 use Rattle.positions.specs.Table.{termLayout, structLayout}
-use Rattle.positions.specs.Positions.{Keeps, argByte, Found, found-single, found-struct, struct-none, nth-copies, before, field, struct-fields, more-packed, fits-below, count-below, size-below}
+use Rattle.positions.specs.Positions.{Keeps, argByte, Found, found-single, found-struct, struct-size, struct-count, struct-none, nth-copies, before, field, struct-fields, more-packed, fits-below, count-below, size-below}
 use Rattle.positions.specs.declared.Primitive.{Primitive}
-use Rattle.flattening.specs.Written.{entryOf, Room, Written, Kept}
+use Rattle.flattening.specs.Written.{entryOf, Room, Written, Kept, Shifted}
 
 -- ---- entries
 
@@ -28,7 +28,7 @@ pub room-fresh : (x : Bytes) → Room (replicate 256 x) (replicate 256 0)
 room-fresh x = record { subs-are = length-replicate 256 x; spots-are = length-replicate {A = ℕ} 256 0 }
 
 module _ {subs : List Bytes} {spots : List ℕ} (room : Room subs spots) (at place : ℕ) (to : Bytes) (off : ℕ) (h : at < 256) (l : off ≤ 256) where
-  entry-put : entryOf (set subs at to) (set spots at (off + 1024 * place)) at ≡ record { off = off; place = place; to = to }
+  pub entry-put : entryOf (set subs at to) (set spots at (off + 1024 * place)) at ≡ record { off = off; place = place; to = to }
   entry-put =
       let s : getD (set spots at (off + 1024 * place)) at 0 ≡ off + 1024 * place = getD-set-same spots at (off + 1024 * place) 0 (omega (arith, room .spots-are)) in
       let b : getD (set subs at to) at [] ≡ to = getD-set-same subs at to [] (omega (arith, room .subs-are)) in
@@ -36,7 +36,7 @@ module _ {subs : List Bytes} {spots : List ℕ} (room : Room subs spots) (at pla
       let d : (off + 1024 * place) / 1024 ≡ place = omega arith in
       rw (s, b, m, d)
 
-  kept-put : Kept subs spots (set subs at to) (set spots at (off + 1024 * place)) at
+  pub kept-put : Kept subs spots (set subs at to) (set spots at (off + 1024 * place)) at
   kept-put = record {
     room = record { subs-are = length-set subs at to ∙ room .subs-are; spots-are = length-set spots at (off + 1024 * place) ∙ room .spots-are };
     below = λ j m.
@@ -45,21 +45,24 @@ module _ {subs : List Bytes} {spots : List ℕ} (room : Room subs spots) (at pla
         rw (s, b);
   }
 
-  written-put : (f : Bytes) (k w : ℕ) → termLayout f k place ≡ single w (treeAt f place)
+  written-put : (f : Bytes) (k w : ℕ) → place ≤ 256 → termLayout f k place ≡ single w (treeAt f place)
       → Written f (set subs at to) (set spots at (off + 1024 * place)) at to off (termLayout f k place)
-  written-put f k w is = record {
+  written-put f k w low is = record {
     each = λ i m.
         let e : at + i ≡ at = omega (arith, m, ap (λ (L : Layout variable). count L) is) in
         subst (λ (r : Primitive). Found f r to off (nth (termLayout f k place) i)) (sym (ap (entryOf (set subs at to) (set spots at (off + 1024 * place))) e ∙ entry-put)) (found-single f k place off i to w is m);
+    near = λ i m.
+        let e : at + i ≡ at = omega (arith, m, ap (λ (L : Layout variable). count L) is) in
+        subst (λ (r : Primitive). (r .off ≤ off + termLayout f k place .size) × (r .place ≤ 256)) (sym (ap (entryOf (set subs at to) (set spots at (off + 1024 * place))) e ∙ entry-put)) (omega arith, low);
   }
 
   -- an integer or a pointer is one entry
-  pub put-single : (f : Bytes) (k w : ℕ) {subs' : List Bytes} {spots' : List ℕ} → termLayout f k place ≡ single w (treeAt f place)
+  pub put-single : (f : Bytes) (k w : ℕ) {subs' : List Bytes} {spots' : List ℕ} → place ≤ 256 → termLayout f k place ≡ single w (treeAt f place)
       → subs' ≡ set subs at to → spots' ≡ set spots at (off + 1024 * place) → (Written f subs' spots' at to off (termLayout f k place)) × (Kept subs spots subs' spots' at)
-  put-single f k w is e g = rw (e, g) (written-put f k w is, kept-put)
+  put-single f k w low is e g = rw (e, g) (written-put f k w low is, kept-put)
 
 pub written-none : {f : Bytes} {subs : List Bytes} {spots : List ℕ} {at : ℕ} {to : Bytes} {off : ℕ} (L : Layout variable) → count L ≡ 0 → Written f subs spots at to off L
-written-none L e = record { each = λ i m. absurd (omega arith) }
+written-none L e = record { each = λ i m. absurd (omega arith); near = λ i m. absurd (omega arith) }
 
 pub kept-none : {subs : List Bytes} {spots : List ℕ} (at : ℕ) → Room subs spots → Kept subs spots subs spots at
 kept-none at room = record { room = room; below = λ j m. refl }
@@ -75,7 +78,44 @@ module _ {subs subs' : List Bytes} {spots spots' : List ℕ} {at' : ℕ} (then :
   pub written-kept : {f : Bytes} (at : ℕ) {to : Bytes} {off : ℕ} (L : Layout variable) → at + count L ≤ at' → Written f subs spots at to off L → Written f subs' spots' at to off L
   written-kept {f} at {to} {off} L l w = record {
     each = λ i m. subst (λ (r : Primitive). Found f r to off (nth L i)) (sym (then .below (at + i) (omega arith))) (w .each i m);
+    near = λ i m. subst (λ (r : Primitive). (r .off ≤ off + L .size) × (r .place ≤ 256)) (sym (then .below (at + i) (omega arith))) (w .near i m);
   }
+
+-- ---- entries shifted
+
+module _ {subs₀ : List Bytes} {spots₀ : List ℕ} {from at by : ℕ} where
+  pub shifted-none : Room subs₀ spots₀ → Shifted subs₀ spots₀ subs₀ spots₀ from 0 at by
+  shifted-none room = record { kept = kept-none at room; each = λ i m. absurd (omega arith) }
+
+  module _ {subs : List Bytes} {spots : List ℕ} {i : ℕ} {x : Primitive} (so : Shifted subs₀ spots₀ subs spots from i at by) (is : x ≡ entryOf subs spots (from + i)) (l : from + i < at) where
+    pub as-before : x ≡ entryOf subs₀ spots₀ (from + i)
+    as-before = is ∙ so .kept .below (from + i) l
+
+    pub shifted-more : {subs' : List Bytes} {spots' : List ℕ} → at + i < 256 → x .off + by ≤ 256 → subs' ≡ set subs (at + i) (x .to) → spots' ≡ set spots (at + i) (x .off + by + 1024 * x .place) → Shifted subs₀ spots₀ subs' spots' from (i + 1) at by
+    shifted-more h m e g = rw (e, g) (record {
+      kept = kept-kept then at (omega arith) (so .kept);
+      each = λ j w. ⊎-elim
+          (λ v. then .below (at + j) (omega arith) ∙ so .each j v)
+          (λ v.
+          let z : j ≡ i = omega arith in
+          rw z (entry-put (so .kept .room) (at + i) (x .place) (x .to) (x .off + by) h m ∙ ap (λ (y : Primitive). record { off = y .off + by; place = y .place; to = y .to }) as-before))
+          (lt-or-le j i);
+    })
+      where
+        then : Kept subs spots (set subs (at + i) (x .to)) (set spots (at + i) (x .off + by + 1024 * x .place)) (at + i)
+        then = kept-put (so .kept .room) (at + i) (x .place) (x .to) (x .off + by) h m
+
+found-shifted : (f : Bytes) (r : Primitive) (to : Bytes) (off by : ℕ) (P : Placed variable) → Found f r to off P → Found f (record { off = r .off + by; place = r .place; to = r .to }) to (off + by) P
+found-shifted f r to off by P found k =
+    ap {B = Placed k} (λ (x : ℕ). placed x (sub (under {k = k} (r .to)) (treeAt f (r .place)))) (add-comm (r .off) by) ∙ ap (moved by) (found k) ∙ moved-moved by off (placedIn (under {k = k} to) P)
+    ∙ ap (λ (x : ℕ). moved x (placedIn (under {k = k} to) P)) (add-comm by off)
+
+pub written-shifted : {f : Bytes} {subs subs' : List Bytes} {spots spots' : List ℕ} {from at by : ℕ} {to : Bytes} {off many : ℕ} (L : Layout variable) → many ≡ count L → Written f subs spots from to off L
+    → Shifted subs spots subs' spots' from many at by → Written f subs' spots' at to (off + by) L
+written-shifted {f} {subs} {subs'} {spots} {spots'} {from} {at} {by} {to} {off} L e w so = record {
+  each = λ i m. subst (λ (r : Primitive). Found f r to (off + by) (nth L i)) (sym (so .each i (omega arith))) (found-shifted f (entryOf subs spots (from + i)) to off by (nth L i) (w .each i m));
+  near = λ i m. subst (λ (r : Primitive). (r .off ≤ off + by + L .size) × (r .place ≤ 256)) (sym (so .each i (omega arith))) (let n = w .near i m in (omega (arith, n .0), n .1));
+}
 
 -- ---- one layout after another
 
@@ -84,8 +124,17 @@ found-moved f r to off x P found k = found k ∙ sym (moved-moved off x (placedI
 
 module _ {f : Bytes} {subs : List Bytes} {spots : List ℕ} (at : ℕ) {to : Bytes} (off : ℕ) where
   written-packed : (A B : Layout variable) → Written f subs spots at to off A → Written f subs spots (at + count A) to (off + A .size) B → Written f subs spots at to off (packed A B)
-  written-packed A B a b = record { each = λ i m. ⊎-elim (left i) (right i m) (lt-or-le i (count A)) }
+  written-packed A B a b = record {
+    each = λ i m. ⊎-elim (left i) (right i m) (lt-or-le i (count A));
+    near = λ i m. ⊎-elim (λ l. let n = a .near i l in (omega (arith, n .0), n .1)) (beyond i m) (lt-or-le i (count A));
+  }
     where
+      beyond : (i : ℕ) → i < count (packed A B) → count A ≤ i → (entryOf subs spots (at + i) .off ≤ off + packed A B .size) × (entryOf subs spots (at + i) .place ≤ 256)
+      beyond i m l =
+          let p : at + count A + (i - count A) ≡ at + i = omega arith in
+          let n = subst (λ (x : ℕ). (entryOf subs spots x .off ≤ off + A .size + B .size) × (entryOf subs spots x .place ≤ 256)) p (b .near (i - count A) (omega (arith, count-packed A B))) in
+          (omega (arith, n .0), n .1)
+
       left : (i : ℕ) → i < count A → Found f (entryOf subs spots (at + i)) to off (nth (packed A B) i)
       left i l = subst (λ (P : Placed variable). Found f (entryOf subs spots (at + i)) to off P) (sym (nth-left A B i l)) (a .each i l)
 
@@ -100,10 +149,21 @@ module _ {f : Bytes} {subs : List Bytes} {spots : List ℕ} (at : ℕ) {to : Byt
   -- one copy more
   pub written-copy : (h : ℕ) (L : Layout variable) (sz cnt : ℕ) → sz ≡ L .size → cnt ≡ count L → Written f subs spots at to off (copiesOf h L) → Written f subs spots (at + h * cnt) to (off + h * sz) L
       → Written f subs spots at to off (copiesOf (suc h) L)
-  written-copy h L sz cnt is-size is-count a w = record { each = λ i m. ⊎-elim (left i m) (right i m) (lt-or-le i (h * count L)) }
+  written-copy h L sz cnt is-size is-count a w = record { each = λ i m. ⊎-elim (left i m) (right i m) (lt-or-le i (h * count L)); near = λ i m. ⊎-elim (before-it i) (beyond i m) (lt-or-le i (h * count L)) }
     where
       b : Written f subs spots (at + h * count L) to (off + h * L .size) L
       b = rw (is-size, is-count) at w
+
+      before-it : (i : ℕ) → i < h * count L → (entryOf subs spots (at + i) .off ≤ off + copiesOf (suc h) L .size) × (entryOf subs spots (at + i) .place ≤ 256)
+      before-it i l =
+          let n = a .near i (omega (arith, count-copiesOf h L)) in
+          (omega (arith, n .0, size-copiesOf h L, size-copiesOf (suc h) L), n .1)
+
+      beyond : (i : ℕ) → i < count (copiesOf (suc h) L) → h * count L ≤ i → (entryOf subs spots (at + i) .off ≤ off + copiesOf (suc h) L .size) × (entryOf subs spots (at + i) .place ≤ 256)
+      beyond i m l =
+          let p : at + h * count L + (i - h * count L) ≡ at + i = omega arith in
+          let n = subst (λ (x : ℕ). (entryOf subs spots x .off ≤ off + h * L .size + L .size) × (entryOf subs spots x .place ≤ 256)) p (b .near (i - h * count L) (omega (arith, count-copiesOf (suc h) L))) in
+          (omega (arith, n .0, size-copiesOf (suc h) L), n .1)
 
       some : (i : ℕ) → i < count (copiesOf (suc h) L) → 0 < count L
       some i m = ⊎-elim (λ l. l) (λ l. absurd (let z : count L ≡ 0 = omega arith in let w : i < suc h * 0 = subst (λ (x : ℕ). i < suc h * x) z (omega (arith, count-copiesOf (suc h) L)) in omega arith)) (lt-or-le 0 (count L))
@@ -121,23 +181,36 @@ module _ {f : Bytes} {subs : List Bytes} {spots : List ℕ} (at : ℕ) {to : Byt
           let found = found-moved f (entryOf subs spots (at + i)) to off (h * L .size) (nth L (i - h * count L)) (subst (λ (x : ℕ). Found f (entryOf subs spots x) to (off + h * L .size) (nth L (i - h * count L))) p (b .each (i - h * count L) s)) in
           subst (λ (P : Placed variable). Found f (entryOf subs spots (at + i)) to off P) (sym (ap (nth (copiesOf (suc h) L)) (sym e) ∙ nth-copy (suc h) L h (i - h * count L) (omega arith) s)) found
 
+-- the first copy
+pub written-first : {f : Bytes} {subs : List Bytes} {spots : List ℕ} (at : ℕ) {to : Bytes} (off : ℕ) (L : Layout variable) → Written f subs spots at to off L → Written f subs spots at to off (copiesOf 1 L)
+unfolding copiesOf
+written-first at off L w = written-packed at off L (copiesOf 0 L) w (written-none (copiesOf 0 L) refl)
+
 pub copies-end : (h : ℕ) (L : Layout variable) (cnt : ℕ) → cnt ≡ count L → count (copiesOf h L) ≡ h * cnt
 copies-end h L cnt e = count-copiesOf h L ∙ ap (λ (x : ℕ). h * x) (sym e)
 
--- there is room for copy h
+-- there is room for copy h, and it is behind the first
 pub copy-room : (x many h s : ℕ) → h < many → x + many * s ≤ 256 → x + h * s + s ≤ 256
 copy-room x many h s l r = let m : suc h * s ≤ many * s = mul-le-mul-right s l in omega arith
+
+pub copy-behind : (h s : ℕ) → 0 < h → s ≤ h * s
+copy-behind h s l = let m : 1 * s ≤ h * s = mul-le-mul-right s l in omega arith
 
 -- ---- by the head
 
 module _ {f : Bytes} {subs : List Bytes} {spots : List ℕ} {at : ℕ} {to : Bytes} {off : ℕ} (k p : ℕ) where
   pub written-struct : (N c d : ℕ) → headOf f p ≡ Struct N c d → N < k → (inside : Bytes) → Keeps to → ((v : ℕ) → byteUnder inside v ≡ argByte to d c v)
-      → count (structLayout f N) ≡ count (termLayout f k p) → Written f subs spots at inside off (structLayout f N) → Written f subs spots at to off (termLayout f k p)
-  written-struct N c d e l inside keeps h same w =
-      record { each = λ i m. found-struct f k p off i to N c d e l inside keeps h (entryOf subs spots (at + i)) (w .each i (omega arith)) }
+      → Written f subs spots at inside off (structLayout f N) → Written f subs spots at to off (termLayout f k p)
+  written-struct N c d e l inside keeps h w =
+      let same = struct-count f k p off 0 to N c d e l in
+      let size = struct-size f k p off 0 to N c d e l in
+      record {
+        each = λ i m. found-struct f k p off i to N c d e l inside keeps h (entryOf subs spots (at + i)) (w .each i (omega arith));
+        near = λ i m. let n = w .near i (omega arith) in (omega (arith, n .0), n .1);
+      }
 
   pub written-unknown : (N c d : ℕ) → headOf f p ≡ Struct N c d → k ≤ N → Written f subs spots at to off (termLayout f k p)
-  written-unknown N c d e l = record { each = λ i m. absurd (struct-none f k p off i to N c d e l m) }
+  written-unknown N c d e l = record { each = λ i m. absurd (struct-none f k p off i to N c d e l m); near = λ i m. absurd (struct-none f k p off i to N c d e l m) }
 
 -- ---- field by field
 

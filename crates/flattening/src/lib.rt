@@ -6,7 +6,7 @@ ghost use lib.ListN.{set};
 ghost use Rattle.rules.specs.Flat.{count, copiesOf};
 ghost use Rattle.positions.specs.Table.{Known, termLayout, structLayout};
 ghost use Rattle.positions.specs.Positions.{Keeps};
-ghost use Rattle.flattening.specs.Written.{entryOf, Room, Written, Kept};
+ghost use Rattle.flattening.specs.Written.{entryOf, Room, Near, Written, Kept, Shifted};
 use positions::Primitive;
 use terms::Head;
 
@@ -39,6 +39,27 @@ pub fn entry(subs: &[[u8; 8]; 256], spots: &[u64; 256], j: usize) -> Primitive
         off: (x % 1024) as usize,
         place: (x / 1024) as usize,
         to,
+    }
+}
+
+// The `many` entries from `from` on once more, from `at` on, each `by` bytes further.
+fn shifted(
+    subs: &mut [[u8; 8]; 256],
+    spots: &mut [u64; 256],
+    from: usize,
+    many: usize,
+    at: usize,
+    by: usize,
+)
+    requires { ⌜ (from + many ≤ at) × (at + many ≤ 256) × (Room (now subs) (now spots)) × (Near (now subs) (now spots) from many by) ⌝ }
+    ensures { λ _. ⌜ Shifted (now (subs .entry)) (now (spots .entry)) (now (subs .exit)) (now (spots .exit)) from many at by ⌝ }
+{
+    let mut i = 0;
+    while i < many {
+        let x = entry(subs, spots, from + i);
+        let to = x.to;
+        put(subs, spots, at + i, x.place, to, x.off + by);
+        i += 1;
     }
 }
 
@@ -78,7 +99,7 @@ pub fn term_written(
     }
 }
 
-// The primitives of `many` copies of the term at place a.
+// The primitives of `many` copies of the term at place a: the first is written, and the others are it, shifted.
 fn copies_written(
     f: &[u8],
     n: usize,
@@ -95,23 +116,16 @@ fn copies_written(
     requires { do let L = termLayout (now f) k a in ⌜ (a ≤ n) × (off + many * L .size ≤ 256) × (at + many * count L ≤ 256) × (Keeps to) × (Known (now f) n k (now tab)) × (Room (now subs) (now spots)) ⌝ }
     ensures { λ _. ⌜ (Written (now (f .entry)) (now (subs .exit)) (now (spots .exit)) at to off (copiesOf many (termLayout (now (f .entry)) k a))) × (Kept (now (subs .entry)) (now (spots .entry)) (now (subs .exit)) (now (spots .exit)) at) ⌝ }
 {
+    if many == 0 {
+        return;
+    }
+    term_written(f, n, k, a, to, off, subs, spots, at, tab);
     let e = positions::extent_in(tab, a);
     let size = e.size;
     let count = e.count;
-    let mut h = 0;
+    let mut h = 1;
     while h < many {
-        term_written(
-            f,
-            n,
-            k,
-            a,
-            to,
-            off + h * size,
-            subs,
-            spots,
-            at + h * count,
-            tab,
-        );
+        shifted(subs, spots, at, count, at + h * count, h * size);
         h += 1;
     }
 }

@@ -16,7 +16,7 @@ use Rattle.positions.specs.Positions.{keeps-args, single-int, single-ptr, struc
 use Rattle.positions.specs.Table.{termLayout, Core, Few, exactOf}
 use Rattle.positions.specs.TableLaws.{known-less}
 use Rattle.flattening.specs.Written.{Written, Kept}
-use Rattle.flattening.specs.Laws.{put-single, written-none, kept-none, written-same, copies-end, kept-kept, written-kept, written-copy, copy-room, written-struct, written-unknown, size-next, count-next, field-fits, field-room, written-field}
+use Rattle.flattening.specs.Laws.{put-single, written-none, kept-none, written-same, copies-end, kept-kept, written-kept, written-first, written-copy, written-shifted, copy-room, copy-behind, written-struct, written-unknown, size-next, count-next, field-fits, field-room, written-field}
 use borrow.Author.Needs.{needs}
 use denote.Ref.{now}
 use lib.ListN.{length}
@@ -36,6 +36,7 @@ use Rattle.flattening.proofs.term_written.Reads as term-written
 use Rattle.flattening.proofs.term_written.Kinds as term-written-kinds
 use Rattle.flattening.proofs.+copies_written+struct_written+term_written.Lts-term_written as term-written-lts
 use Rattle.flattening.proofs.put.Reads as put-reads
+use Rattle.flattening.proofs.shifted.Reads as shifted-reads
 use Rattle.positions.proofs.arguments.Reads as arguments-reads
 use Rattle.positions.proofs.core_in.Reads as core-in-reads
 use Rattle.positions.proofs.extent_in.Reads as extent-in-reads
@@ -75,7 +76,7 @@ term-written-below t = and 4 term-written-kinds.ps (falls 4 term-written-kinds.p
 
 -- what the callees of `copies_written` ask and ensure, at the measure t
 abbrev copies-written-uses : ℕ → copies-written-lts.Claims
-copies-written-uses t = (extent-in-reads.Asked, extent-in-reads.Learnt, term-written-below t, term-written.Post)
+copies-written-uses t = (term-written-below t, term-written.Post, extent-in-reads.Asked, extent-in-reads.Learnt, shifted-reads.Asked, shifted-reads.Learnt)
 
 -- what the callees of `struct_written` ask and ensure, at the measure t
 abbrev struct-written-uses : ℕ → struct-written-lts.Claims
@@ -86,10 +87,11 @@ abbrev term-written-uses : ℕ → term-written-lts.Claims
 term-written-uses t = (extent-in-reads.Asked, extent-in-reads.Learnt, core-in-reads.Asked, core-in-reads.Learnt, head-of-reads.Asked, head-of-reads.Learnt, copies-written-below t, copies-written.Post, arguments-reads.Asked, arguments-reads.Learnt, struct-written-below t, struct-written.Post, put-reads.Asked, put-reads.Learnt)
 
 abbrev copies-written-Inv-loop : copies-written-lts.InvT-loop
-copies-written-Inv-loop f n k a to off many subs₀ spots₀ at tab size count h₀ subs spots h = (h ≤ many) × (Written f subs spots at to off (copiesOf h (termLayout f k a))) × (Kept subs₀ spots₀ subs spots at)
+copies-written-Inv-loop f n k a off many subs₀ spots₀ at tab size count h₀ subs spots h =
+    (0 < h) × (h ≤ many) × ((to : List ℕ) → Written f subs₀ spots₀ at to off (termLayout f k a) → (Written f subs spots at to off (copiesOf h (termLayout f k a))) × (Written f subs spots at to off (termLayout f k a))) × (Kept subs₀ spots₀ subs spots at)
 
 abbrev copies-written-μ-loop : copies-written-lts.MeasureT-loop
-copies-written-μ-loop f n k a to off many subs₀ spots₀ at tab size count h₀ subs spots h = many - h
+copies-written-μ-loop f n k a off many subs₀ spots₀ at tab size count h₀ subs spots h = many - h
 
 abbrev struct-written-Inv-loop : struct-written-lts.InvT-loop
 struct-written-Inv-loop f n number to off subs₀ spots₀ at tab first y fields size₀ count₀ j₀ subs spots size count j =
@@ -98,72 +100,111 @@ struct-written-Inv-loop f n number to off subs₀ spots₀ at tab first y fields
 abbrev struct-written-μ-loop : struct-written-lts.MeasureT-loop
 struct-written-μ-loop f n number to off subs₀ spots₀ at tab first y fields size₀ count₀ j₀ subs spots size count j = fields - j
 
--- What is known of copy h, in plain names.
-module _ (t : ℕ) (c : copies-written-lts.In-loop (copies-written-uses t) (copies-written-at t) copies-written.Post copies-written-Inv-loop copies-written-μ-loop) where
+-- What is known of a copy once its extent is read, in plain names.
+module _ (t : ℕ) (c : copies-written-lts.After-extent-in (copies-written-uses t) (copies-written-at t) copies-written.Post copies-written-Inv-loop copies-written-μ-loop) where
   abbrev copy : Layout variable
-  copy = termLayout (now (c .before .before .before .before .before .args .f)) (c .before .before .before .before .before .args .k) (c .before .before .before .before .before .args .a)
+  copy = termLayout (now (c .before .before .before .before .before .before .before .args .f)) (c .before .before .before .before .before .before .before .args .k) (c .before .before .before .before .before .before .before .args .a)
 
-  copy-fits : c .before .before .before .before .before .args .off + c .before .loop .h * copy .size + copy .size ≤ 256
-  copy-fits = copy-room (c .before .before .before .before .before .args .off) (c .before .before .before .before .before .args .many) (c .before .loop .h) (copy .size) (c .loop-test .taken) (c .before .before .before .before .before .pre .1 .1)
+  copy-fits : c .before .before .before .before .before .before .before .args .off + 0 * copy .size + copy .size ≤ 256
+  copy-fits = copy-room (c .before .before .before .before .before .before .before .args .off) (c .before .before .before .before .before .before .before .args .many) 0 (copy .size) (let z = c .before .before .before .before .if1 .left in omega arith) (c .before .before .before .before .before .before .before .pre .1 .1)
 
-  copy-entries : c .before .before .before .before .before .args .at + c .before .loop .h * count copy + count copy ≤ 256
-  copy-entries = copy-room (c .before .before .before .before .before .args .at) (c .before .before .before .before .before .args .many) (c .before .loop .h) (count copy) (c .loop-test .taken) (c .before .before .before .before .before .pre .1 .2)
+  copy-extent : c .extent-in .result ≡ exactOf copy
+  copy-extent = c .extent-in .ensures ∙ c .before .before .before .before .before .before .before .pre .1 .4 .entries (c .before .before .before .before .before .before .before .args .a) (c .before .before .before .before .before .before .before .pre .1 .0) (let l = copy-fits in omega arith)
 
-  copy-extent : c .before .before .extent-in .result ≡ exactOf copy
-  copy-extent = c .before .before .extent-in .ensures ∙ c .before .before .before .before .before .pre .1 .4 .entries (c .before .before .before .before .before .args .a) (c .before .before .before .before .before .pre .1 .0) (let l = copy-fits in omega arith)
-
-  copy-size : c .before .before .extent-in .result .size ≡ copy .size
+  copy-size : c .extent-in .result .size ≡ copy .size
   copy-size = ap (λ (x : Extent). x .size) copy-extent
 
-  copy-count : c .before .before .extent-in .result .count ≡ count copy
+  copy-count : c .extent-in .result .count ≡ count copy
   copy-count = ap (λ (x : Extent). x .count) copy-extent
 
-  copy-off : c .before .before .before .before .before .args .off + c .before .loop .h * c .before .before .extent-in .result .size + copy .size ≤ 256
-  copy-off = subst (λ (x : ℕ). c .before .before .before .before .before .args .off + c .before .loop .h * x + copy .size ≤ 256) (sym copy-size) copy-fits
+-- and of copy h
+module _ (t : ℕ) (c : copies-written-lts.In-loop (copies-written-uses t) (copies-written-at t) copies-written.Post copies-written-Inv-loop copies-written-μ-loop) where
+  copy-off : c .before .before .before .before .before .before .before .before .before .args .off + c .before .loop .h * c .before .before .extent-in .result .size + copy t (c .before .before) .size ≤ 256
+  copy-off = subst (λ (x : ℕ). c .before .before .before .before .before .before .before .before .before .args .off + c .before .loop .h * x + copy t (c .before .before) .size ≤ 256) (sym (copy-size t (c .before .before)))
+      (copy-room (c .before .before .before .before .before .before .before .before .before .args .off) (c .before .before .before .before .before .before .before .before .before .args .many) (c .before .loop .h) (copy t (c .before .before) .size) (c .loop-test .taken) (c .before .before .before .before .before .before .before .before .before .pre .1 .1))
 
-  copy-start : c .before .before .before .before .before .args .at + c .before .loop .h * c .before .before .extent-in .result .count + count copy ≤ 256
-  copy-start = subst (λ (x : ℕ). c .before .before .before .before .before .args .at + c .before .loop .h * x + count copy ≤ 256) (sym copy-count) copy-entries
+  copy-start : c .before .before .before .before .before .before .before .before .before .args .at + c .before .loop .h * c .before .before .extent-in .result .count + count (copy t (c .before .before)) ≤ 256
+  copy-start = subst (λ (x : ℕ). c .before .before .before .before .before .before .before .before .before .args .at + c .before .loop .h * x + count (copy t (c .before .before)) ≤ 256) (sym (copy-count t (c .before .before)))
+      (copy-room (c .before .before .before .before .before .before .before .before .before .args .at) (c .before .before .before .before .before .before .before .before .before .args .many) (c .before .loop .h) (count (copy t (c .before .before))) (c .loop-test .taken) (c .before .before .before .before .before .before .before .before .before .pre .1 .2))
 
-copies-written-loop-holds : (t : ℕ) → copies-written-lts.Need-loop-holds (copies-written-uses t) (copies-written-at t) copies-written.Post copies-written-Inv-loop copies-written-μ-loop
-copies-written-loop-holds t c =
-    let L = termLayout (now (c .before .before .before .args .f)) (c .before .before .before .args .k) (c .before .before .before .args .a) in
-    (omega arith, written-none (copiesOf 0 L) (omega (arith, count-copiesOf 0 L)), kept-none (c .before .before .before .args .at) (c .before .before .before .pre .1 .5))
-
-copies-written-mul-term-written : (t : ℕ) → copies-written-lts.Need-mul-term-written (copies-written-uses t) (copies-written-at t) copies-written.Post copies-written-Inv-loop copies-written-μ-loop
-copies-written-mul-term-written t c = omega (arith, copy-off t c)
-
-copies-written-add-term-written : (t : ℕ) → copies-written-lts.Need-add-term-written (copies-written-uses t) (copies-written-at t) copies-written.Post copies-written-Inv-loop copies-written-μ-loop
-copies-written-add-term-written t c = omega (arith, copy-off t c)
-
-copies-written-mul-term-written-2 : (t : ℕ) → copies-written-lts.Need-mul-term-written-2 (copies-written-uses t) (copies-written-at t) copies-written.Post copies-written-Inv-loop copies-written-μ-loop
-copies-written-mul-term-written-2 t c = omega (arith, copy-start t (c .before .before))
-
-copies-written-add-term-written-2 : (t : ℕ) → copies-written-lts.Need-add-term-written-2 (copies-written-uses t) (copies-written-at t) copies-written.Post copies-written-Inv-loop copies-written-μ-loop
-copies-written-add-term-written-2 t c = omega (arith, copy-start t (c .before .before))
-
-copies-written-term-written-requires : (t : ℕ) → copies-written-lts.Need-term-written-requires (copies-written-uses t) (copies-written-at t) copies-written.Post copies-written-Inv-loop copies-written-μ-loop
-copies-written-term-written-requires t c κs =
-    let q = c .before .before .before .before .before .before .before .pre in
-    (omega (arith, q .0), (q .1 .0, copy-off t (c .before .before), copy-start t (c .before .before), q .1 .3, q .1 .4, c .before .before .before .loop .inv .2 .room))
-
-copies-written-loop-again : (t : ℕ) → copies-written-lts.Need-loop-again (copies-written-uses t) (copies-written-at t) copies-written.Post copies-written-Inv-loop copies-written-μ-loop
-copies-written-loop-again t c =
-    let a = c .before .before .before .before .before .before .before .before .args in
-    let h = c .before .before .before .before .loop .h in
-    let L = copy t (c .before .before .before) in
-    let x = c .before .before .before .before .before .extent-in .result in
-    let kept = c .term-written .ensures .1 in (
-      omega arith,
-      written-same (ap (λ (y : ℕ). copiesOf y L) (sym (add-one h)))
-          (written-copy (a .at) (a .off) h L (x .size) (x .count) (copy-size t (c .before .before .before)) (copy-count t (c .before .before .before))
-          (written-kept kept (a .at) (copiesOf h L) (omega (arith, copies-end h L (x .count) (copy-count t (c .before .before .before)))) (c .before .before .before .before .loop .inv .1)) (c .term-written .ensures .0)),
-      kept-kept kept (a .at) (omega arith) (c .before .before .before .before .loop .inv .2),
-    )
+  copy-after : c .before .before .extent-in .result .count ≤ c .before .loop .h * c .before .before .extent-in .result .count
+  copy-after = copy-behind (c .before .loop .h) (c .before .before .extent-in .result .count) (c .before .loop .inv .0)
 
 copies-written-returns : (t : ℕ) → copies-written-lts.Need-returns (copies-written-uses t) (copies-written-at t) copies-written.Post copies-written-Inv-loop copies-written-μ-loop
 copies-written-returns t c =
-    let e : c .before .loop .h ≡ c .before .before .before .before .before .args .many = (let l = c .before .loop .inv .0 in let m = c .loop-test .left in omega arith) in
-    (written-same (ap (λ (x : ℕ). copiesOf x (termLayout (now (c .before .before .before .before .before .args .f)) (c .before .before .before .before .before .args .k) (c .before .before .before .before .before .args .a))) e) (c .before .loop .inv .1), c .before .loop .inv .2)
+    let a = c .before .before .before .args in
+    let L = termLayout (now (a .f)) (a .k) (a .a) in
+    (written-same (ap (λ (x : ℕ). copiesOf x L) (sym (c .if1 .taken))) (written-none (copiesOf 0 L) (omega (arith, count-copiesOf 0 L))), kept-none (a .at) (c .before .before .before .pre .1 .5))
+
+copies-written-term-written-requires : (t : ℕ) → copies-written-lts.Need-term-written-requires (copies-written-uses t) (copies-written-at t) copies-written.Post copies-written-Inv-loop copies-written-μ-loop
+copies-written-term-written-requires t c κs =
+    let a = c .before .before .before .before .before .args in
+    let q = c .before .before .before .before .before .pre in
+    let L = termLayout (now (a .f)) (a .k) (a .a) in
+    let z = c .before .before .if1 .left in (
+      omega (arith, q .0),
+      (
+        q .1 .0,
+        omega (arith, copy-room (a .off) (a .many) 0 (L .size) (omega arith) (q .1 .1)),
+        omega (arith, copy-room (a .at) (a .many) 0 (count L) (omega arith) (q .1 .2)),
+        q .1 .3,
+        q .1 .4,
+        q .1 .5,
+      ),
+    )
+
+copies-written-loop-holds : (t : ℕ) → copies-written-lts.Need-loop-holds (copies-written-uses t) (copies-written-at t) copies-written.Post copies-written-Inv-loop copies-written-μ-loop
+copies-written-loop-holds t c =
+    let w = c .before .term-written .ensures in
+    let z = c .before .before .before .before .if1 .left in
+    (omega arith, omega arith, λ to first. (written-first (c .before .before .before .before .before .before .before .args .at) (c .before .before .before .before .before .before .before .args .off) (copy t c) first, first), kept-none (c .before .before .before .before .before .before .before .args .at) (w .1 .room))
+
+copies-written-mul-shifted : (t : ℕ) → copies-written-lts.Need-mul-shifted (copies-written-uses t) (copies-written-at t) copies-written.Post copies-written-Inv-loop copies-written-μ-loop
+copies-written-mul-shifted t c = omega (arith, copy-start t (c .before .before))
+
+copies-written-add-shifted : (t : ℕ) → copies-written-lts.Need-add-shifted (copies-written-uses t) (copies-written-at t) copies-written.Post copies-written-Inv-loop copies-written-μ-loop
+copies-written-add-shifted t c = omega (arith, copy-start t (c .before .before))
+
+copies-written-mul-shifted-2 : (t : ℕ) → copies-written-lts.Need-mul-shifted-2 (copies-written-uses t) (copies-written-at t) copies-written.Post copies-written-Inv-loop copies-written-μ-loop
+copies-written-mul-shifted-2 t c = omega (arith, copy-off t (c .before .before))
+
+copies-written-shifted-requires : (t : ℕ) → copies-written-lts.Need-shifted-requires (copies-written-uses t) (copies-written-at t) copies-written.Post copies-written-Inv-loop copies-written-μ-loop
+copies-written-shifted-requires t c κs =
+    let x = c .before .before in
+    let e = copy-count t (c .before .before .before .before) in
+    let v = c .before .before .before .loop .inv in (
+      omega (arith, copy-after t x),
+      omega (arith, copy-start t x),
+      v .3 .room,
+      λ i l. (let n = v .2 (c .before .before .before .before .before .before .before .before .before .before .before .args .to) (c .before .before .before .before .before .term-written .ensures .0) .1 .near i (omega arith) in (omega (arith, n .0, copy-off t x), n .1)),
+    )
+
+copies-written-loop-again : (t : ℕ) → copies-written-lts.Need-loop-again (copies-written-uses t) (copies-written-at t) copies-written.Post copies-written-Inv-loop copies-written-μ-loop
+copies-written-loop-again t c =
+    let a = c .before .before .before .before .before .before .before .before .before .before .before .before .args in
+    let h = c .before .before .before .before .loop .h in
+    let v = c .before .before .before .before .loop .inv in
+    let y = c .before .before .before .before .before in
+    let L = copy t y in
+    let x = y .extent-in .result in
+    let kept = c .shifted .ensures .kept in
+    let after = copy-after t (c .before .before .before) in (
+      omega arith,
+      omega arith,
+      λ to first.
+          (let w = v .2 to first in (
+            written-same (ap (λ (z : ℕ). copiesOf z L) (sym (add-one h)))
+                (written-copy (a .at) (a .off) h L (x .size) (x .count) (copy-size t y) (copy-count t y)
+                (written-kept kept (a .at) (copiesOf h L) (omega (arith, copies-end h L (x .count) (copy-count t y))) (w .0)) (written-shifted L (copy-count t y) (w .1) (c .shifted .ensures))),
+            written-kept kept (a .at) L (omega (arith, copy-count t y)) (w .1),
+          )),
+      kept-kept kept (a .at) (omega arith) (v .3),
+    )
+
+copies-written-returns-2 : (t : ℕ) → copies-written-lts.Need-returns-2 (copies-written-uses t) (copies-written-at t) copies-written.Post copies-written-Inv-loop copies-written-μ-loop
+copies-written-returns-2 t c =
+    let e : c .before .loop .h ≡ c .before .before .before .before .before .before .before .before .before .args .many = (let l = c .before .loop .inv .1 in let m = c .loop-test .left in omega arith) in
+    (written-same (ap (λ (x : ℕ). copiesOf x (copy t (c .before .before))) e) (c .before .loop .inv .2 (c .before .before .before .before .before .before .before .before .before .args .to) (c .before .before .before .term-written .ensures .0) .0), kept-kept (c .before .loop .inv .3) (c .before .before .before .before .before .before .before .before .before .args .at) (omega arith) (c .before .before .before .term-written .ensures .1))
 
 -- What is known of a field once its place is read, in plain names.
 module _ (t : ℕ) (c : struct-written-lts.After-place-of (struct-written-uses t) (struct-written-at t) struct-written.Post struct-written-Inv-loop struct-written-μ-loop) where
@@ -365,8 +406,7 @@ term-written-returns-3 t c =
     let head = sym (c .before .before .before .before .before .before .before .before .before .head-of .ensures .0) ∙ c .before .before .before .before .before .before .before .number .given .1 in
     let l = c .before .before .before .before .before .if2 .taken in (
       written-same (sym (trm-same t x))
-          (written-struct (a .k) (trm-p t x) _ _ _ head l (c .before .before .before .arguments .result) (c .before .before .before .before .before .before .before .before .before .before .before .before .before .before .before .before .pre .1 .3) (c .before .before .before .arguments .ensures)
-          (struct-count (now (a .f)) (a .k) (trm-p t x) (a .off) 0 (a .t5) _ _ _ head l) (c .struct-written .ensures .0)),
+          (written-struct (a .k) (trm-p t x) _ _ _ head l (c .before .before .before .arguments .result) (c .before .before .before .before .before .before .before .before .before .before .before .before .before .before .before .before .pre .1 .3) (c .before .before .before .arguments .ensures) (c .struct-written .ensures .0)),
       c .struct-written .ensures .1,
     )
 
@@ -391,7 +431,7 @@ term-written-returns-5 : (t : ℕ) → term-written-lts.Need-returns-5 (term-wri
 term-written-returns-5 t c =
     let a = c .before .before .before .before .before .before .before .before .before .before .before .before .args in
     let x = c .before .before .before .before .before .before in
-    let w = put-single (c .before .before .before .before .before .before .before .before .before .before .before .before .pre .1 .5) (a .at) (trm-p t x) (a .t5) (a .off) (omega (arith, trm-room t x, trm-some t x)) (omega (arith, trm-fits t x)) (now (a .f)) (a .k) _
+    let w = put-single (c .before .before .before .before .before .before .before .before .before .before .before .before .pre .1 .5) (a .at) (trm-p t x) (a .t5) (a .off) (omega (arith, trm-room t x, trm-some t x)) (omega (arith, trm-fits t x)) (now (a .f)) (a .k) _ (omega (arith, trm-low t x, c .before .before .before .before .before .before .before .before .before .before .before .before .pre .1 .4 .terms .few))
     (single-int (now (a .f)) (a .k) (trm-p t x) (a .off) 0 (a .t5) _ (sym (c .before .before .before .before .before .head-of .ensures .0) ∙ c .before .before .before .enum-told .given .1)) (c .put .ensures .0) (c .put .ensures .1) in
     (written-same (sym (trm-same t x)) (w .0), w .1)
 
@@ -399,7 +439,7 @@ term-written-returns-6 : (t : ℕ) → term-written-lts.Need-returns-6 (term-wri
 term-written-returns-6 t c =
     let a = c .before .before .before .before .before .before .before .before .before .before .before .before .args in
     let x = c .before .before .before .before .before .before in
-    let w = put-single (c .before .before .before .before .before .before .before .before .before .before .before .before .pre .1 .5) (a .at) (trm-p t x) (a .t5) (a .off) (omega (arith, trm-room t x, trm-some t x)) (omega (arith, trm-fits t x)) (now (a .f)) (a .k) _
+    let w = put-single (c .before .before .before .before .before .before .before .before .before .before .before .before .pre .1 .5) (a .at) (trm-p t x) (a .t5) (a .off) (omega (arith, trm-room t x, trm-some t x)) (omega (arith, trm-fits t x)) (now (a .f)) (a .k) _ (omega (arith, trm-low t x, c .before .before .before .before .before .before .before .before .before .before .before .before .pre .1 .4 .terms .few))
     (single-ptr (now (a .f)) (a .k) (trm-p t x) (a .off) 0 (a .t5) _ _ (sym (c .before .before .before .before .before .head-of .ensures .0) ∙ c .before .before .before .enum-told2 .given .1)) (c .put2 .ensures .0) (c .put2 .ensures .1) in
     (written-same (sym (trm-same t x)) (w .0), w .1)
 
@@ -410,17 +450,18 @@ pub +copies-written+struct-written+term-written-spec : {M : Type 1} → statemen
     copies-written.Post
     copies-written-Inv-loop
     copies-written-μ-loop
+    (copies-written-returns t)
+    (copies-written-term-written-requires t)
     (λ c κs. search needs)
     (copies-written-loop-holds t)
-    (copies-written-mul-term-written t)
-    (copies-written-add-term-written t)
-    (copies-written-mul-term-written-2 t)
-    (copies-written-add-term-written-2 t)
-    (copies-written-term-written-requires t)
+    (copies-written-mul-shifted t)
+    (copies-written-add-shifted t)
+    (copies-written-mul-shifted-2 t)
+    (copies-written-shifted-requires t)
     (λ c. search needs)
     (λ c. search needs)
     (copies-written-loop-again t)
-    (copies-written-returns t))
+    (copies-written-returns-2 t))
     (λ t. struct-written-lts.spec (struct-written-uses t)
     (struct-written-at t)
     struct-written.Post
