@@ -55,7 +55,7 @@ fn corpus(folder: &Path) {
 }
 
 fn workloads() {
-    for name in ["loop", "list", "ranking"] {
+    for name in ["loop", "list", "ranking", "pointers"] {
         let text = std::fs::read_to_string(format!("bench/{name}.asm")).expect("a workload");
         let file = assemble(&text).expect("a module");
         let mut state = opened(&file).expect("opened");
