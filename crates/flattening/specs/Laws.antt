@@ -1,33 +1,34 @@
 -- Terms written out: an entry, one layout after another, copies and fields. Assumes nothing.
 use mathlib.Core.Path.{_≡_, refl, sym, ap, _∙_, subst}
-use mathlib.Core.Logic.{⊎-elim}
-use mathlib.Core.List.{List, []}
-use Prim.Native.Nat.{ℕ, suc, _+_, _-_, _*_, _/_, _%_, _≤_, _<_}
+use mathlib.Core.Logic.{⊎-elim, _≢_}
+use mathlib.Core.List.{List, [], _∷_}
+use Prim.Native.Nat.{ℕ, zero, suc, _+_, _-_, _*_, _/_, _%_, _≤_, _<_}
 use native.Mathlib.Nat.{add-comm, mul-le-mul-right}
+use native.Mathlib.Decide.{ℕ-discrete}
 use native.Mathlib.Omega.{arith}
-use lib.ListN.{getD, set, replicate, length-set, length-replicate}
+use lib.ListN.{length, getD, set, replicate, length-set, length-replicate, List·getD-eq-default}
 use lib.Seq.{getD-set-same, getD-set-other}
 use Rattle.words.specs.Bytes.{Bytes}
 use Rattle.words.specs.Choose.{lt-or-le}
-use Rattle.rules.specs.Types.{variable, sub}
+use Rattle.rules.specs.Types.{RegionKind, variable, sub, nowhere}
 use Rattle.rules.specs.Flat.{Placed, at as placed, Layout, count, single, moved, packed, copiesOf, placedIn}
 use Rattle.layout.specs.Prims.{nth, moved-moved, placed-moved, count-packed, count-copiesOf, size-copiesOf}
 use Rattle.layout.specs.Runs.{nth-left, nth-right, nth-copies as nth-copy}
-use Rattle.terms.specs.Compare.{byteUnder, under}
+use Rattle.terms.specs.Compare.{byteUnder, under, sub-same}
 use Rattle.terms.specs.Extents.{Terms, fieldCount}
 use Rattle.terms.specs.Heads.{treeAt, headOf}
 use Rattle.terms.specs.declared.Head.the-variants.{Struct}
 use Rattle.positions.specs.Table.{termLayout, structLayout}
-use Rattle.positions.specs.Positions.{Keeps, argByte, Found, found-single, found-struct, struct-size, struct-count, struct-none, nth-copies, before, field, struct-fields, more-packed, fits-below, count-below, size-below}
+use Rattle.positions.specs.Positions.{Keeps, Agree, under-agree, argByte, Found, found-single, found-struct, struct-size, struct-count, struct-none, nth-copies, before, field, struct-fields, more-packed, fits-below, count-below, size-below}
 use Rattle.positions.specs.declared.Primitive.{Primitive}
-use Rattle.flattening.specs.Written.{entryOf, Room, Written, Kept, Shifted}
+use Rattle.flattening.specs.Written.{entryOf, Room, Written, Kept, Shifted, PastOf, Past}
 
 -- ---- entries
 
-pub room-fresh : (x : Bytes) → Room (replicate 256 x) (replicate 256 0)
-room-fresh x = record { subs-are = length-replicate 256 x; spots-are = length-replicate {A = ℕ} 256 0 }
+pub room-fresh : (x : Bytes) → Room (replicate 288 x) (replicate 288 0)
+room-fresh x = record { subs-are = length-replicate 288 x; spots-are = length-replicate {A = ℕ} 288 0 }
 
-module _ {subs : List Bytes} {spots : List ℕ} (room : Room subs spots) (at place : ℕ) (to : Bytes) (off : ℕ) (h : at < 256) (l : off ≤ 256) where
+module _ {subs : List Bytes} {spots : List ℕ} (room : Room subs spots) (at place : ℕ) (to : Bytes) (off : ℕ) (h : at < 288) (l : off ≤ 256) where
   pub entry-put : entryOf (set subs at to) (set spots at (off + 1024 * place)) at ≡ record { off = off; place = place; to = to }
   entry-put =
       let s : getD (set spots at (off + 1024 * place)) at 0 ≡ off + 1024 * place = getD-set-same spots at (off + 1024 * place) 0 (omega (arith, room .spots-are)) in
@@ -55,6 +56,15 @@ module _ {subs : List Bytes} {spots : List ℕ} (room : Room subs spots) (at pla
         let e : at + i ≡ at = omega (arith, m, ap (λ (L : Layout variable). count L) is) in
         subst (λ (r : Primitive). (r .off ≤ off + termLayout f k place .size) × (r .place ≤ 256)) (sym (ap (entryOf (set subs at to) (set spots at (off + 1024 * place))) e ∙ entry-put)) (omega arith, low);
   }
+
+  pub others-put : (j : ℕ) → at ≢ j → entryOf (set subs at to) (set spots at (off + 1024 * place)) j ≡ entryOf subs spots j
+  others-put j d =
+      let s : getD (set spots at (off + 1024 * place)) j 0 ≡ getD spots j 0 = getD-set-other spots at j (off + 1024 * place) 0 (λ e. d (sym e)) in
+      let b : getD (set subs at to) j [] ≡ getD subs j [] = getD-set-other subs at j to [] (λ e. d (sym e)) in
+      rw (s, b)
+
+  pub put-memo : {subs' : List Bytes} {spots' : List ℕ} → at < 256 → subs' ≡ set subs at to → spots' ≡ set spots at (off + 1024 * place) → (j : ℕ) → 256 ≤ j → entryOf subs' spots' j ≡ entryOf subs spots j
+  put-memo low e g j m = rw (e, g) (others-put j (λ z. omega arith))
 
   -- an integer or a pointer is one entry
   pub put-single : (f : Bytes) (k w : ℕ) {subs' : List Bytes} {spots' : List ℕ} → place ≤ 256 → termLayout f k place ≡ single w (treeAt f place)
@@ -85,7 +95,7 @@ module _ {subs subs' : List Bytes} {spots spots' : List ℕ} {at' : ℕ} (then :
 
 module _ {subs₀ : List Bytes} {spots₀ : List ℕ} {from at by : ℕ} where
   pub shifted-none : Room subs₀ spots₀ → Shifted subs₀ spots₀ subs₀ spots₀ from 0 at by
-  shifted-none room = record { kept = kept-none at room; each = λ i m. absurd (omega arith) }
+  shifted-none room = record { kept = kept-none at room; memo = λ j m. refl; each = λ i m. absurd (omega arith) }
 
   module _ {subs : List Bytes} {spots : List ℕ} {i : ℕ} {x : Primitive} (so : Shifted subs₀ spots₀ subs spots from i at by) (is : x ≡ entryOf subs spots (from + i)) (l : from + i < at) where
     pub as-before : x ≡ entryOf subs₀ spots₀ (from + i)
@@ -94,16 +104,20 @@ module _ {subs₀ : List Bytes} {spots₀ : List ℕ} {from at by : ℕ} where
     pub shifted-more : {subs' : List Bytes} {spots' : List ℕ} → at + i < 256 → x .off + by ≤ 256 → subs' ≡ set subs (at + i) (x .to) → spots' ≡ set spots (at + i) (x .off + by + 1024 * x .place) → Shifted subs₀ spots₀ subs' spots' from (i + 1) at by
     shifted-more h m e g = rw (e, g) (record {
       kept = kept-kept then at (omega arith) (so .kept);
+      memo = λ j v. others-put (so .kept .room) (at + i) (x .place) (x .to) (x .off + by) small m j (λ e. omega arith) ∙ so .memo j v;
       each = λ j w. ⊎-elim
           (λ v. then .below (at + j) (omega arith) ∙ so .each j v)
           (λ v.
           let z : j ≡ i = omega arith in
-          rw z (entry-put (so .kept .room) (at + i) (x .place) (x .to) (x .off + by) h m ∙ ap (λ (y : Primitive). record { off = y .off + by; place = y .place; to = y .to }) as-before))
+          rw z (entry-put (so .kept .room) (at + i) (x .place) (x .to) (x .off + by) small m ∙ ap (λ (y : Primitive). record { off = y .off + by; place = y .place; to = y .to }) as-before))
           (lt-or-le j i);
     })
       where
+        small : at + i < 288
+        small = omega arith
+
         then : Kept subs spots (set subs (at + i) (x .to)) (set spots (at + i) (x .off + by + 1024 * x .place)) (at + i)
-        then = kept-put (so .kept .room) (at + i) (x .place) (x .to) (x .off + by) h m
+        then = kept-put (so .kept .room) (at + i) (x .place) (x .to) (x .off + by) small m
 
 found-shifted : (f : Bytes) (r : Primitive) (to : Bytes) (off by : ℕ) (P : Placed variable) → Found f r to off P → Found f (record { off = r .off + by; place = r .place; to = r .to }) to (off + by) P
 found-shifted f r to off by P found k =
@@ -239,3 +253,83 @@ module _ (f : Bytes) (n N : ℕ) (is : Terms f n) (off at : ℕ) (fits : off + s
   written-field {subs} {spots} {to} a b =
       subst (λ (L : Layout variable). Written f subs spots at to off L) (sym next)
       (written-packed at off (before f n N j) (field f n N j) a (rw (is-size, is-count) at b))
+
+-- ---- structs remembered
+
+zeros : (n j : ℕ) → _≡_ {A = ℕ} (getD (replicate n 0) j 0) 0
+zeros zero j = refl
+zeros (suc n) zero = refl
+zeros (suc n) (suc j) = zeros n j
+
+pub past-none : (f x : Bytes) (at off : ℕ) → Past f (replicate 288 x) (replicate 288 0) at off
+past-none f x at off = record { each = λ N l s. absurd (let z = zeros 288 (256 + N) in let w : 0 < 0 / 1024 = rw z at s in omega arith) }
+
+module _ {f : Bytes} {subs : List Bytes} {spots : List ℕ} (at off : ℕ) (past : Past f subs spots at off) where
+  pub past-later : {at' off' : ℕ} → at ≤ at' → off ≤ off' → Past f subs spots at' off'
+  past-later a o = record { each = λ N l s. (let p = past .each N l s in record { behind = omega (arith, p .behind); nearer = omega (arith, p .nearer); is = p .is }) }
+
+  module _ {subs' : List Bytes} {spots' : List ℕ} {at' : ℕ} (kept : Kept subs spots subs' spots' at') (le : at ≤ at') where
+    past-one : (N : ℕ) (r : Primitive) → PastOf f subs spots at off N r → PastOf f subs' spots' at off N r
+    past-one N r p = record { behind = p .behind; nearer = p .nearer; is = written-kept kept (r .place - 1) (structLayout f N) (omega (arith, p .behind)) (p .is) }
+
+    -- what is remembered stays, where the memo does
+    pub past-kept : ((j : ℕ) → 256 ≤ j → entryOf subs' spots' j ≡ entryOf subs spots j) → Past f subs' spots' at off
+    past-kept same = record {
+      each = λ N l s.
+          (let e = same (256 + N) (omega arith) in
+          subst (λ (r : Primitive). PastOf f subs' spots' at off N r) (sym e) (past-one N (entryOf subs spots (256 + N)) (past .each N l (subst (λ (r : Primitive). 0 < r .place) e s))));
+    }
+
+default : (l : Bytes) (v d : ℕ) → v < length l → getD l v d ≡ getD l v 0
+default [] v d h = absurd (omega arith)
+default (x ∷ l) zero d h = refl
+default (x ∷ l) (suc v) d h = default l v d (omega arith)
+
+pub agree-all : (x y : Bytes) → length x ≡ 8 → length y ≡ 8 → ((v : ℕ) → v < 8 → getD x v 0 ≡ getD y v 0) → Agree x y
+agree-all x y a b h v = ⊎-elim
+    (λ l. default x v nowhere (omega arith) ∙ h v l ∙ sym (default y v nowhere (omega arith)))
+    (λ l. List·getD-eq-default x nowhere {n = v} (omega arith) ∙ sym (List·getD-eq-default y nowhere {n = v} (omega arith)))
+    (lt-or-le v 8)
+
+pub written-off : {f : Bytes} {subs : List Bytes} {spots : List ℕ} {at : ℕ} {to : Bytes} {off off' : ℕ} {L : Layout variable} → off ≡ off' → Written f subs spots at to off L → Written f subs spots at to off' L
+written-off {f} {subs} {spots} {at} {to} {off} {off'} {L} e w = subst (λ (x : ℕ). Written f subs spots at to x L) e w
+
+pub agree-written : {f : Bytes} {subs : List Bytes} {spots : List ℕ} {at : ℕ} {to to' : Bytes} {off : ℕ} (L : Layout variable) → Agree to to' → Written f subs spots at to off L → Written f subs spots at to' off L
+agree-written {f} {subs} {spots} {at} {to} {to'} {off} L h w = record { each = λ i m k. w .each i m k ∙ ap (moved off) (placed-agree k (nth L i)); near = w .near }
+  where
+    placed-agree : (k : RegionKind) (P : Placed variable) → placedIn (under {k = k} to) P ≡ placedIn (under to') P
+    placed-agree k (placed d T) = ap {B = Placed k} (placed d) (sub-same (under {k = k} to) (under to') (under-agree to to' h) T)
+
+-- a struct that is written is remembered
+module _ {f : Bytes} {subs subs' : List Bytes} {spots spots' : List ℕ} (N at : ℕ) (to : Bytes) (off at' off' : ℕ) (room : Room subs spots) (past : Past f subs spots at' off') (w : Written f subs spots at to off (structLayout f N))
+    (few : N < 32) (fits : off ≤ 256) (le : at + count (structLayout f N) ≤ at') (most : at' ≤ 256) (nearer : off ≤ off')
+    (e : subs' ≡ set subs (256 + N) to) (g : spots' ≡ set spots (256 + N) (off + 1024 * (at + 1))) where
+  small : 256 + N < 288
+  small = omega arith
+
+  memo-kept : Kept subs spots subs' spots' (256 + N)
+  memo-kept = rw (e, g) (kept-put room (256 + N) (at + 1) to off small fits)
+
+  pub put-kept : Kept subs spots subs' spots' at'
+  put-kept = record { room = memo-kept .room; below = λ j m. memo-kept .below j (omega arith) }
+
+  pub put-written : Written f subs' spots' at to off (structLayout f N)
+  put-written = written-kept put-kept at (structLayout f N) le w
+
+  put-same : entryOf subs' spots' (256 + N) ≡ record { off = off; place = at + 1; to = to }
+  put-same = rw (e, g) (entry-put room (256 + N) (at + 1) to off small fits)
+
+  put-other : (M : ℕ) → 256 + N ≢ 256 + M → entryOf subs' spots' (256 + M) ≡ entryOf subs spots (256 + M)
+  put-other M d = rw (e, g) (others-put room (256 + N) (at + 1) to off small fits (256 + M) d)
+
+  pub past-put : Past f subs' spots' at' off'
+  past-put = record { each = λ M l s. go M l s (ℕ-discrete M N) }
+    where
+      go : (M : ℕ) → M < 32 → 0 < entryOf subs' spots' (256 + M) .place → Dec (M ≡ N) → PastOf f subs' spots' at' off' M (entryOf subs' spots' (256 + M))
+      go M l s (yes z) =
+          let v : at + 1 - 1 ≡ at = omega arith in
+          rw (z, put-same) (record { behind = omega arith; nearer = nearer; is = subst (λ (x : ℕ). Written f subs' spots' x to off (structLayout f N)) (sym v) put-written })
+      go M l s (no d) =
+          let o = put-other M (λ z. d (omega arith)) in
+          subst (λ (r : Primitive). PastOf f subs' spots' at' off' M r) (sym o)
+          (past-one at' off' past put-kept (omega arith) M (entryOf subs spots (256 + M)) (past .each M l (subst (λ (r : Primitive). 0 < r .place) o s)))

@@ -1,27 +1,34 @@
 // Terms written out: every primitive of a term, found in one walk over it, so that a long run is compared without a descent for each.
 // An entry of `subs` is what stands for each variable; that of `spots` is the place of the primitive's term and its distance.
 ghost use mathlib.Core.Path.{_≡_};
+ghost use mathlib.Core.Bool.{true};
 ghost use Prim.Native.Nat.{_+_, _*_, _<_, _≤_};
 ghost use lib.ListN.{set};
 ghost use Rattle.rules.specs.Flat.{count, copiesOf};
 ghost use Rattle.positions.specs.Table.{Known, termLayout, structLayout};
-ghost use Rattle.positions.specs.Positions.{Keeps};
-ghost use Rattle.flattening.specs.Written.{entryOf, Room, Near, Written, Kept, Shifted};
+ghost use Rattle.positions.specs.Positions.{Keeps, Agree};
+ghost use Rattle.flattening.specs.Written.{entryOf, Room, Near, Written, Kept, Shifted, Past};
 use positions::Primitive;
 use terms::Head;
+
+// Entries of primitives come first, as many as a term can have; from MEMO on there is one for each struct, place 0 where it was not written yet: the
+// first of its primitives, from 1, and the distance and substitution with which it was written last.
+const MEMO: usize = 256;
+
+pub const ENTRIES: usize = 288;
 
 // ---- entries
 
 // Entry `at` is the primitive at this place and distance under `to`.
 fn put(
-    subs: &mut [[u8; 8]; 256],
-    spots: &mut [u64; 256],
+    subs: &mut [[u8; 8]; ENTRIES],
+    spots: &mut [u64; ENTRIES],
     at: usize,
     place: usize,
     to: [u8; 8],
     off: usize,
 )
-    requires { ⌜ (at < 256) × (place ≤ 256) × (off ≤ 256) ⌝ }
+    requires { ⌜ (at < 288) × (place ≤ 256) × (off ≤ 256) ⌝ }
     ensures { λ _. ⌜ (now (subs .exit) ≡ set (now (subs .entry)) at to) × (now (spots .exit) ≡ set (now (spots .entry)) at (off + 1024 * place)) ⌝ }
 {
     subs[at] = to;
@@ -29,8 +36,8 @@ fn put(
 }
 
 // Entry j.
-pub fn entry(subs: &[[u8; 8]; 256], spots: &[u64; 256], j: usize) -> Primitive
-    requires { ⌜ j < 256 ⌝ }
+pub fn entry(subs: &[[u8; 8]; ENTRIES], spots: &[u64; ENTRIES], j: usize) -> Primitive
+    requires { ⌜ j < 288 ⌝ }
     ensures { λ r. ⌜ r ≡ entryOf (now (subs .entry)) (now (spots .entry)) j ⌝ }
 {
     let x = spots[j];
@@ -44,8 +51,8 @@ pub fn entry(subs: &[[u8; 8]; 256], spots: &[u64; 256], j: usize) -> Primitive
 
 // The `many` entries from `from` on once more, from `at` on, each `by` bytes further.
 fn shifted(
-    subs: &mut [[u8; 8]; 256],
-    spots: &mut [u64; 256],
+    subs: &mut [[u8; 8]; ENTRIES],
+    spots: &mut [u64; ENTRIES],
     from: usize,
     many: usize,
     at: usize,
@@ -63,6 +70,23 @@ fn shifted(
     }
 }
 
+// Whether something was written, and under the same substitution.
+fn at_hand(start: usize, x: [u8; 8], y: [u8; 8]) -> bool
+    ensures { λ r. ⌜ (r ≡ true → (0 < start) × (Agree x y)) ⌝ }
+{
+    if start == 0 {
+        return false;
+    }
+    let mut i = 0;
+    while i < 8 {
+        if x[i] != y[i] {
+            return false;
+        }
+        i += 1;
+    }
+    true
+}
+
 // ---- writing out: functions in a cycle, as those of positions
 
 // The primitives of the term at place p, which lies off bytes into something of at most 256, from entry `at` on.
@@ -73,16 +97,17 @@ pub fn term_written(
     p: usize,
     to: [u8; 8],
     off: usize,
-    subs: &mut [[u8; 8]; 256],
-    spots: &mut [u64; 256],
+    subs: &mut [[u8; 8]; ENTRIES],
+    spots: &mut [u64; ENTRIES],
     at: usize,
     tab: &[u64],
 )
-    requires { do let L = termLayout (now f) k p in ⌜ (p ≤ n) × (off + L .size ≤ 256) × (at + count L ≤ 256) × (Keeps to) × (Known (now f) n k (now tab)) × (Room (now subs) (now spots)) ⌝ }
-    ensures { λ _. ⌜ (Written (now (f .entry)) (now (subs .exit)) (now (spots .exit)) at to off (termLayout (now (f .entry)) k p)) × (Kept (now (subs .entry)) (now (spots .entry)) (now (subs .exit)) (now (spots .exit)) at) ⌝ }
+    requires { do let L = termLayout (now f) k p in ⌜ (p ≤ n) × (off + L .size ≤ 256) × (at + count L ≤ 256) × (Keeps to) × (Known (now f) n k (now tab)) × (Room (now subs) (now spots)) × (k ≤ 32) × (Past (now f) (now subs) (now spots) at off) ⌝ }
+    ensures { λ _. ⌜ (Written (now (f .entry)) (now (subs .exit)) (now (spots .exit)) at to off (termLayout (now (f .entry)) k p)) × (Kept (now (subs .entry)) (now (spots .entry)) (now (subs .exit)) (now (spots .exit)) at) × (Past (now (f .entry)) (now (subs .exit)) (now (spots .exit)) (at + count (termLayout (now (f .entry)) k p)) (off + termLayout (now (f .entry)) k p .size)) ⌝ }
 {
     let e = positions::extent_in(tab, p);
-    if e.count == 0 {
+    let all = e.count;
+    if all == 0 {
         return;
     }
     let c = positions::core_in(tab, p);
@@ -91,7 +116,7 @@ pub fn term_written(
         Head::Struct(number, count, d) => {
             if number < k {
                 let inside = positions::arguments(d, count, &to);
-                struct_written(f, n, number, inside, off, subs, spots, at, tab);
+                struct_written(f, n, number, inside, off, all, subs, spots, at, tab);
             }
         }
         Head::Int(_) => put(subs, spots, at, c, to, off),
@@ -108,13 +133,13 @@ fn copies_written(
     to: [u8; 8],
     off: usize,
     many: usize,
-    subs: &mut [[u8; 8]; 256],
-    spots: &mut [u64; 256],
+    subs: &mut [[u8; 8]; ENTRIES],
+    spots: &mut [u64; ENTRIES],
     at: usize,
     tab: &[u64],
 )
-    requires { do let L = termLayout (now f) k a in ⌜ (a ≤ n) × (off + many * L .size ≤ 256) × (at + many * count L ≤ 256) × (Keeps to) × (Known (now f) n k (now tab)) × (Room (now subs) (now spots)) ⌝ }
-    ensures { λ _. ⌜ (Written (now (f .entry)) (now (subs .exit)) (now (spots .exit)) at to off (copiesOf many (termLayout (now (f .entry)) k a))) × (Kept (now (subs .entry)) (now (spots .entry)) (now (subs .exit)) (now (spots .exit)) at) ⌝ }
+    requires { do let L = termLayout (now f) k a in ⌜ (a ≤ n) × (off + many * L .size ≤ 256) × (at + many * count L ≤ 256) × (Keeps to) × (Known (now f) n k (now tab)) × (Room (now subs) (now spots)) × (k ≤ 32) × (Past (now f) (now subs) (now spots) at off) ⌝ }
+    ensures { λ _. ⌜ (Written (now (f .entry)) (now (subs .exit)) (now (spots .exit)) at to off (copiesOf many (termLayout (now (f .entry)) k a))) × (Kept (now (subs .entry)) (now (spots .entry)) (now (subs .exit)) (now (spots .exit)) at) × (Past (now (f .entry)) (now (subs .exit)) (now (spots .exit)) (at + many * count (termLayout (now (f .entry)) k a)) (off + many * termLayout (now (f .entry)) k a .size)) ⌝ }
 {
     if many == 0 {
         return;
@@ -130,21 +155,30 @@ fn copies_written(
     }
 }
 
-// The primitives of a struct, field by field.
+// The `many` primitives of a struct: those that were written before under the same substitution, shifted, or field by field.
 fn struct_written(
     f: &[u8],
     n: usize,
     number: usize,
     to: [u8; 8],
     off: usize,
-    subs: &mut [[u8; 8]; 256],
-    spots: &mut [u64; 256],
+    many: usize,
+    subs: &mut [[u8; 8]; ENTRIES],
+    spots: &mut [u64; ENTRIES],
     at: usize,
     tab: &[u64],
 )
-    requires { do let L = structLayout (now f) number in ⌜ (number < 256) × (off + L .size ≤ 256) × (at + count L ≤ 256) × (Keeps to) × (Known (now f) n number (now tab)) × (Room (now subs) (now spots)) ⌝ }
-    ensures { λ _. ⌜ (Written (now (f .entry)) (now (subs .exit)) (now (spots .exit)) at to off (structLayout (now (f .entry)) number)) × (Kept (now (subs .entry)) (now (spots .entry)) (now (subs .exit)) (now (spots .exit)) at) ⌝ }
+    requires { do let L = structLayout (now f) number in ⌜ (number < 32) × (off + L .size ≤ 256) × (at + count L ≤ 256) × (Keeps to) × (Known (now f) n number (now tab)) × (Room (now subs) (now spots)) × (Past (now f) (now subs) (now spots) at off) × (many ≡ count L) × (0 < many) ⌝ }
+    ensures { λ _. ⌜ (Written (now (f .entry)) (now (subs .exit)) (now (spots .exit)) at to off (structLayout (now (f .entry)) number)) × (Kept (now (subs .entry)) (now (spots .entry)) (now (subs .exit)) (now (spots .exit)) at) × (Past (now (f .entry)) (now (subs .exit)) (now (spots .exit)) (at + count (structLayout (now (f .entry)) number)) (off + structLayout (now (f .entry)) number .size)) ⌝ }
 {
+    let seen = entry(subs, spots, MEMO + number);
+    let under = seen.to;
+    let start = seen.place;
+    let there = seen.off;
+    if at_hand(start, under, to) {
+        shifted(subs, spots, start - 1, many, at, off - there);
+        return;
+    }
     let first = n + 2 * number;
     let x = walk::file::record_at(f, first);
     let y = walk::file::record_at(f, first + 1);
@@ -171,4 +205,5 @@ fn struct_written(
         count = count + e.count;
         j += 1;
     }
+    put(subs, spots, MEMO + number, at + 1, to, off);
 }

@@ -12,6 +12,7 @@ ghost use Rattle.positions.specs.Table.{Table, termLayout};
 ghost use Rattle.positions.specs.Positions.{Keeps, placedOf};
 ghost use Rattle.runs.specs.Entries.{Compared};
 ghost use Rattle.runs.specs.Runs.{RunAtIs, SameIs, InPageIs, StandsIs};
+use flattening::ENTRIES;
 use positions::Primitive;
 use terms::Live;
 
@@ -72,11 +73,11 @@ fn short_run(
 // Whether the `many` primitives written into the latter entries are those of the former, from entry d on.
 fn entries_same(
     f: &[u8],
-    subs: &[[u8; 8]; 256],
-    spots: &[u64; 256],
+    subs: &[[u8; 8]; ENTRIES],
+    spots: &[u64; ENTRIES],
     d: usize,
-    subs2: &[[u8; 8]; 256],
-    spots2: &[u64; 256],
+    subs2: &[[u8; 8]; ENTRIES],
+    spots2: &[u64; ENTRIES],
     many: usize,
 ) -> bool
     requires { ⌜ (0 < many) × (d + many ≤ 256) ⌝ }
@@ -114,10 +115,10 @@ fn written_run(
     ensures { λ r. ⌜ ((j : RegionKind) → r ≡ does (decRun (subLayout (under {k = j} p) (termLayout (now (f .entry)) k a)) d (subLayout (under q) (termLayout (now (f .entry)) k b)))) ⌝ }
 {
     let none = [0u8; 8];
-    let mut subs = [none; 256];
-    let mut spots = [0u64; 256];
-    let mut subs2 = [none; 256];
-    let mut spots2 = [0u64; 256];
+    let mut subs = [none; ENTRIES];
+    let mut spots = [0u64; ENTRIES];
+    let mut subs2 = [none; ENTRIES];
+    let mut spots2 = [0u64; ENTRIES];
     flattening::term_written(f, n, k, a, p, 0, &mut subs, &mut spots, 0, tab);
     flattening::term_written(f, n, k, b, q, 0, &mut subs2, &mut spots2, 0, tab);
     entries_same(f, &subs, &spots, d, &subs2, &spots2, many)

@@ -12,11 +12,12 @@ use Rattle.terms.specs.HeadLaws.{fair-at}
 use Rattle.terms.specs.Heads.{headOf, placeOf}
 use Rattle.terms.specs.declared.Extent.{Extent}
 use Rattle.terms.specs.declared.Head.the-variants.{Arr}
-use Rattle.positions.specs.Positions.{keeps-args, single-int, single-ptr, struct-size, struct-count, arr-layout, before, field, struct-fields}
-use Rattle.positions.specs.Table.{termLayout, Core, Few, exactOf}
+use Rattle.positions.specs.Positions.{Agree, keeps-args, single-int, single-ptr, struct-size, struct-count, arr-layout, before, field, struct-fields}
+use Rattle.positions.specs.Table.{termLayout, structLayout, Core, Few, exactOf}
 use Rattle.positions.specs.TableLaws.{known-less}
-use Rattle.flattening.specs.Written.{Written, Kept}
-use Rattle.flattening.specs.Laws.{put-single, written-none, kept-none, written-same, copies-end, kept-kept, written-kept, written-first, written-copy, written-shifted, copy-room, copy-behind, written-struct, written-unknown, size-next, count-next, field-fits, field-room, written-field}
+use Rattle.positions.specs.declared.Primitive.{Primitive}
+use Rattle.flattening.specs.Written.{Written, Kept, PastOf, Past}
+use Rattle.flattening.specs.Laws.{put-single, put-memo, past-later, past-kept, written-off, agree-written, put-written, put-kept, past-put, written-none, kept-none, written-same, copies-end, kept-kept, written-kept, written-first, written-copy, written-shifted, copy-room, copy-behind, written-struct, written-unknown, size-next, count-next, field-fits, field-room, written-field}
 use borrow.Author.Needs.{needs}
 use denote.Ref.{now}
 use lib.ListN.{length}
@@ -35,6 +36,8 @@ use Rattle.flattening.proofs.+copies_written+struct_written+term_writte
 use Rattle.flattening.proofs.term_written.Reads as term-written
 use Rattle.flattening.proofs.term_written.Kinds as term-written-kinds
 use Rattle.flattening.proofs.+copies_written+struct_written+term_written.Lts-term_written as term-written-lts
+use Rattle.flattening.proofs.at_hand.Reads as at-hand-reads
+use Rattle.flattening.proofs.entry.Reads as entry-reads
 use Rattle.flattening.proofs.put.Reads as put-reads
 use Rattle.flattening.proofs.shifted.Reads as shifted-reads
 use Rattle.positions.proofs.arguments.Reads as arguments-reads
@@ -80,7 +83,7 @@ copies-written-uses t = (term-written-below t, term-written.Post, extent-in-read
 
 -- what the callees of `struct_written` ask and ensure, at the measure t
 abbrev struct-written-uses : ℕ → struct-written-lts.Claims
-struct-written-uses t = (record-at-reads.Asked, record-at-reads.Learnt, entry-of-reads.Asked, entry-of-reads.Learnt, place-of-reads.Asked, place-of-reads.Learnt, term-written-below t, term-written.Post, extent-in-reads.Asked, extent-in-reads.Learnt)
+struct-written-uses t = (entry-reads.Asked, entry-reads.Learnt, at-hand-reads.Asked, at-hand-reads.Learnt, shifted-reads.Asked, shifted-reads.Learnt, record-at-reads.Asked, record-at-reads.Learnt, entry-of-reads.Asked, entry-of-reads.Learnt, place-of-reads.Asked, place-of-reads.Learnt, term-written-below t, term-written.Post, extent-in-reads.Asked, extent-in-reads.Learnt, put-reads.Asked, put-reads.Learnt)
 
 -- what the callees of `term_written` ask and ensure, at the measure t
 abbrev term-written-uses : ℕ → term-written-lts.Claims
@@ -88,17 +91,17 @@ term-written-uses t = (extent-in-reads.Asked, extent-in-reads.Learnt, core-in-re
 
 abbrev copies-written-Inv-loop : copies-written-lts.InvT-loop
 copies-written-Inv-loop f n k a off many subs₀ spots₀ at tab size count h₀ subs spots h =
-    (0 < h) × (h ≤ many) × ((to : List ℕ) → Written f subs₀ spots₀ at to off (termLayout f k a) → (Written f subs spots at to off (copiesOf h (termLayout f k a))) × (Written f subs spots at to off (termLayout f k a))) × (Kept subs₀ spots₀ subs spots at)
+    (0 < h) × (h ≤ many) × ((to : List ℕ) → Written f subs₀ spots₀ at to off (termLayout f k a) → (Written f subs spots at to off (copiesOf h (termLayout f k a))) × (Written f subs spots at to off (termLayout f k a))) × (Kept subs₀ spots₀ subs spots at) × (Past f subs spots (at + length (termLayout f k a .prims)) (off + termLayout f k a .size))
 
 abbrev copies-written-μ-loop : copies-written-lts.MeasureT-loop
 copies-written-μ-loop f n k a off many subs₀ spots₀ at tab size count h₀ subs spots h = many - h
 
 abbrev struct-written-Inv-loop : struct-written-lts.InvT-loop
-struct-written-Inv-loop f n number to off subs₀ spots₀ at tab first y fields size₀ count₀ j₀ subs spots size count j =
-    (j ≤ fields) × (size ≡ before f n number j .size) × (count ≡ length (before f n number j .prims)) × (Written f subs spots at to off (before f n number j)) × (Kept subs₀ spots₀ subs spots at)
+struct-written-Inv-loop f n number to off many subs₀ spots₀ at tab start there first y fields size₀ count₀ j₀ subs spots size count j =
+    (j ≤ fields) × (size ≡ before f n number j .size) × (count ≡ length (before f n number j .prims)) × (Written f subs spots at to off (before f n number j)) × (Kept subs₀ spots₀ subs spots at) × (Past f subs spots (at + count) (off + size))
 
 abbrev struct-written-μ-loop : struct-written-lts.MeasureT-loop
-struct-written-μ-loop f n number to off subs₀ spots₀ at tab first y fields size₀ count₀ j₀ subs spots size count j = fields - j
+struct-written-μ-loop f n number to off many subs₀ spots₀ at tab start there first y fields size₀ count₀ j₀ subs spots size count j = fields - j
 
 -- What is known of a copy once its extent is read, in plain names.
 module _ (t : ℕ) (c : copies-written-lts.After-extent-in (copies-written-uses t) (copies-written-at t) copies-written.Post copies-written-Inv-loop copies-written-μ-loop) where
@@ -134,7 +137,7 @@ copies-written-returns : (t : ℕ) → copies-written-lts.Need-returns (copies-w
 copies-written-returns t c =
     let a = c .before .before .before .args in
     let L = termLayout (now (a .f)) (a .k) (a .a) in
-    (written-same (ap (λ (x : ℕ). copiesOf x L) (sym (c .if1 .taken))) (written-none (copiesOf 0 L) (omega (arith, count-copiesOf 0 L))), kept-none (a .at) (c .before .before .before .pre .1 .5))
+    (written-same (ap (λ (x : ℕ). copiesOf x L) (sym (c .if1 .taken))) (written-none (copiesOf 0 L) (omega (arith, count-copiesOf 0 L))), kept-none (a .at) (c .before .before .before .pre .1 .5), past-later (a .at) (a .off) (c .before .before .before .pre .1 .7) (omega arith) (omega arith))
 
 copies-written-term-written-requires : (t : ℕ) → copies-written-lts.Need-term-written-requires (copies-written-uses t) (copies-written-at t) copies-written.Post copies-written-Inv-loop copies-written-μ-loop
 copies-written-term-written-requires t c κs =
@@ -150,6 +153,8 @@ copies-written-term-written-requires t c κs =
         q .1 .3,
         q .1 .4,
         q .1 .5,
+        q .1 .6,
+        q .1 .7,
       ),
     )
 
@@ -157,7 +162,7 @@ copies-written-loop-holds : (t : ℕ) → copies-written-lts.Need-loop-holds (co
 copies-written-loop-holds t c =
     let w = c .before .term-written .ensures in
     let z = c .before .before .before .before .if1 .left in
-    (omega arith, omega arith, λ to first. (written-first (c .before .before .before .before .before .before .before .args .at) (c .before .before .before .before .before .before .before .args .off) (copy t c) first, first), kept-none (c .before .before .before .before .before .before .before .args .at) (w .1 .room))
+    (omega arith, omega arith, λ to first. (written-first (c .before .before .before .before .before .before .before .args .at) (c .before .before .before .before .before .before .before .args .off) (copy t c) first, first), kept-none (c .before .before .before .before .before .before .before .args .at) (w .1 .room), w .2)
 
 copies-written-mul-shifted : (t : ℕ) → copies-written-lts.Need-mul-shifted (copies-written-uses t) (copies-written-at t) copies-written.Post copies-written-Inv-loop copies-written-μ-loop
 copies-written-mul-shifted t c = omega (arith, copy-start t (c .before .before))
@@ -199,23 +204,30 @@ copies-written-loop-again t c =
             written-kept kept (a .at) L (omega (arith, copy-count t y)) (w .1),
           )),
       kept-kept kept (a .at) (omega arith) (v .3),
+      past-kept (a .at + count L) (a .off + L .size) (v .4) kept (omega (arith, copy-count t y)) (c .shifted .ensures .memo),
     )
 
 copies-written-returns-2 : (t : ℕ) → copies-written-lts.Need-returns-2 (copies-written-uses t) (copies-written-at t) copies-written.Post copies-written-Inv-loop copies-written-μ-loop
 copies-written-returns-2 t c =
-    let e : c .before .loop .h ≡ c .before .before .before .before .before .before .before .before .before .args .many = (let l = c .before .loop .inv .1 in let m = c .loop-test .left in omega arith) in
-    (written-same (ap (λ (x : ℕ). copiesOf x (copy t (c .before .before))) e) (c .before .loop .inv .2 (c .before .before .before .before .before .before .before .before .before .args .to) (c .before .before .before .term-written .ensures .0) .0), kept-kept (c .before .loop .inv .3) (c .before .before .before .before .before .before .before .before .before .args .at) (omega arith) (c .before .before .before .term-written .ensures .1))
+    let e : c .before .loop .h ≡ c .before .before .before .before .before .before .before .before .before .args .many = (let l = c .before .loop .inv .1 in let m = c .loop-test .left in omega arith) in (
+      written-same (ap (λ (x : ℕ). copiesOf x (copy t (c .before .before))) e) (c .before .loop .inv .2 (c .before .before .before .before .before .before .before .before .before .args .to) (c .before .before .before .term-written .ensures .0) .0),
+      kept-kept (c .before .loop .inv .3) (c .before .before .before .before .before .before .before .before .before .args .at) (omega arith) (c .before .before .before .term-written .ensures .1),
+      (let a = c .before .before .before .before .before .before .before .before .before .args in
+          let L = copy t (c .before .before) in
+          past-later (a .at + count L) (a .off + L .size) (c .before .loop .inv .4)
+          (omega (arith, copy-behind (a .many) (count L) (let z = c .before .before .before .before .before .before .if1 .left in omega arith))) (omega (arith, copy-behind (a .many) (L .size) (let z = c .before .before .before .before .before .before .if1 .left in omega arith)))),
+    )
 
 -- What is known of a field once its place is read, in plain names.
 module _ (t : ℕ) (c : struct-written-lts.After-place-of (struct-written-uses t) (struct-written-at t) struct-written.Post struct-written-Inv-loop struct-written-μ-loop) where
   abbrev fld-f : List ℕ
-  fld-f = now (c .before .before .before .before .before .before .before .before .args .f)
+  fld-f = now (c .before .before .before .before .before .before .before .before .before .before .before .before .before .before .args .f)
 
   abbrev fld-n : ℕ
-  fld-n = c .before .before .before .before .before .before .before .before .args .n
+  fld-n = c .before .before .before .before .before .before .before .before .before .before .before .before .before .before .args .n
 
   abbrev fld-N : ℕ
-  fld-N = c .before .before .before .before .before .before .before .before .args .number
+  fld-N = c .before .before .before .before .before .before .before .before .before .before .before .before .before .before .args .number
 
   abbrev fld-j : ℕ
   fld-j = c .before .before .before .loop .j
@@ -230,18 +242,18 @@ module _ (t : ℕ) (c : struct-written-lts.After-place-of (struct-written-uses t
   fld-less : fld-j < fieldCount fld-f fld-n fld-N
   fld-less = let e = ap (λ (x : Record). x .b) (c .before .before .before .before .before .record-at .ensures) in let h = c .before .before .loop-test .taken in omega arith
 
-  fld-fits : c .before .before .before .before .before .before .before .before .args .off + c .before .before .before .loop .size + termLayout fld-f fld-N (c .place-of .result) .size ≤ 256
-  fld-fits = subst (λ (L : Layout variable). c .before .before .before .before .before .before .before .before .args .off + c .before .before .before .loop .size + L .size ≤ 256) (sym fld-same)
-      (field-fits fld-f fld-n fld-N (c .before .before .before .before .before .before .before .before .pre .1 .4 .terms) (c .before .before .before .before .before .before .before .before .args .off) (c .before .before .before .before .before .before .before .before .args .at) (c .before .before .before .before .before .before .before .before .pre .1 .1) (c .before .before .before .before .before .before .before .before .pre .1 .2) fld-j (c .before .before .before .loop .size) (c .before .before .before .loop .count) fld-less (c .before .before .before .loop .inv .1) (c .before .before .before .loop .inv .2))
+  fld-fits : c .before .before .before .before .before .before .before .before .before .before .before .before .before .before .args .off + c .before .before .before .loop .size + termLayout fld-f fld-N (c .place-of .result) .size ≤ 256
+  fld-fits = subst (λ (L : Layout variable). c .before .before .before .before .before .before .before .before .before .before .before .before .before .before .args .off + c .before .before .before .loop .size + L .size ≤ 256) (sym fld-same)
+      (field-fits fld-f fld-n fld-N (c .before .before .before .before .before .before .before .before .before .before .before .before .before .before .pre .1 .4 .terms) (c .before .before .before .before .before .before .before .before .before .before .before .before .before .before .args .off) (c .before .before .before .before .before .before .before .before .before .before .before .before .before .before .args .at) (c .before .before .before .before .before .before .before .before .before .before .before .before .before .before .pre .1 .1) (c .before .before .before .before .before .before .before .before .before .before .before .before .before .before .pre .1 .2) fld-j (c .before .before .before .loop .size) (c .before .before .before .loop .count) fld-less (c .before .before .before .loop .inv .1) (c .before .before .before .loop .inv .2))
 
-  fld-room : c .before .before .before .before .before .before .before .before .args .at + c .before .before .before .loop .count + count (termLayout fld-f fld-N (c .place-of .result)) ≤ 256
-  fld-room = subst (λ (L : Layout variable). c .before .before .before .before .before .before .before .before .args .at + c .before .before .before .loop .count + count L ≤ 256) (sym fld-same)
-      (field-room fld-f fld-n fld-N (c .before .before .before .before .before .before .before .before .pre .1 .4 .terms) (c .before .before .before .before .before .before .before .before .args .off) (c .before .before .before .before .before .before .before .before .args .at) (c .before .before .before .before .before .before .before .before .pre .1 .1) (c .before .before .before .before .before .before .before .before .pre .1 .2) fld-j (c .before .before .before .loop .size) (c .before .before .before .loop .count) fld-less (c .before .before .before .loop .inv .1) (c .before .before .before .loop .inv .2))
+  fld-room : c .before .before .before .before .before .before .before .before .before .before .before .before .before .before .args .at + c .before .before .before .loop .count + count (termLayout fld-f fld-N (c .place-of .result)) ≤ 256
+  fld-room = subst (λ (L : Layout variable). c .before .before .before .before .before .before .before .before .before .before .before .before .before .before .args .at + c .before .before .before .loop .count + count L ≤ 256) (sym fld-same)
+      (field-room fld-f fld-n fld-N (c .before .before .before .before .before .before .before .before .before .before .before .before .before .before .pre .1 .4 .terms) (c .before .before .before .before .before .before .before .before .before .before .before .before .before .before .args .off) (c .before .before .before .before .before .before .before .before .before .before .before .before .before .before .args .at) (c .before .before .before .before .before .before .before .before .before .before .before .before .before .before .pre .1 .1) (c .before .before .before .before .before .before .before .before .before .before .before .before .before .before .pre .1 .2) fld-j (c .before .before .before .loop .size) (c .before .before .before .loop .count) fld-less (c .before .before .before .loop .inv .1) (c .before .before .before .loop .inv .2))
 
 -- and once its extent is
 module _ (t : ℕ) (c : struct-written-lts.After-extent-in (struct-written-uses t) (struct-written-at t) struct-written.Post struct-written-Inv-loop struct-written-μ-loop) where
   fld-extent : c .extent-in .result ≡ exactOf (termLayout (fld-f t (c .before .before .before .before)) (fld-N t (c .before .before .before .before)) (c .before .before .before .before .place-of .result))
-  fld-extent = c .extent-in .ensures ∙ c .before .before .before .before .before .before .before .before .before .before .before .before .pre .1 .4 .entries (c .before .before .before .before .place-of .result) (c .before .before .before .before .place-of .ensures .1) (let l = fld-fits t (c .before .before .before .before) in omega arith)
+  fld-extent = c .extent-in .ensures ∙ c .before .before .before .before .before .before .before .before .before .before .before .before .before .before .before .before .before .before .pre .1 .4 .entries (c .before .before .before .before .place-of .result) (c .before .before .before .before .place-of .ensures .1) (let l = fld-fits t (c .before .before .before .before) in omega arith)
 
   fld-size : c .extent-in .result .size ≡ termLayout (fld-f t (c .before .before .before .before)) (fld-N t (c .before .before .before .before)) (c .before .before .before .before .place-of .result) .size
   fld-size = ap (λ (x : Extent). x .size) fld-extent
@@ -250,18 +262,18 @@ module _ (t : ℕ) (c : struct-written-lts.After-extent-in (struct-written-uses 
   fld-count = ap (λ (x : Extent). x .count) fld-extent
 
 struct-written-mul-first : (t : ℕ) → struct-written-lts.Need-mul-first (struct-written-uses t) (struct-written-at t) struct-written.Post struct-written-Inv-loop struct-written-μ-loop
-struct-written-mul-first t c = omega (arith, c .before .before .pre .1 .0)
+struct-written-mul-first t c = omega (arith, c .before .before .before .before .before .before .before .before .pre .1 .0)
 
 struct-written-add-first : (t : ℕ) → struct-written-lts.Need-add-first (struct-written-uses t) (struct-written-at t) struct-written.Post struct-written-Inv-loop struct-written-μ-loop
-struct-written-add-first t c = omega (arith, c .before .before .pre .1 .0, c .before .before .pre .1 .4 .terms .few)
+struct-written-add-first t c = omega (arith, c .before .before .before .before .before .before .before .before .pre .1 .0, c .before .before .before .before .before .before .before .before .pre .1 .4 .terms .few)
 
 struct-written-add-record-at : (t : ℕ) → struct-written-lts.Need-add-record-at (struct-written-uses t) (struct-written-at t) struct-written.Post struct-written-Inv-loop struct-written-μ-loop
-struct-written-add-record-at t c = omega (arith, c .before .before .before .pre .1 .0, c .before .before .before .pre .1 .4 .terms .few)
+struct-written-add-record-at t c = omega (arith, c .before .before .before .before .before .before .before .before .before .pre .1 .0, c .before .before .before .before .before .before .before .before .before .pre .1 .4 .terms .few)
 
 struct-written-loop-holds : (t : ℕ) → struct-written-lts.Need-loop-holds (struct-written-uses t) (struct-written-at t) struct-written.Post struct-written-Inv-loop struct-written-μ-loop
 unfolding firsts
 struct-written-loop-holds t c =
-    (omega arith, refl, refl, written-none (before (now (c .before .before .before .before .args .f)) (c .before .before .before .before .args .n) (c .before .before .before .before .args .number) 0) refl, kept-none (c .before .before .before .before .args .at) (c .before .before .before .before .pre .1 .5))
+    (omega arith, refl, refl, written-none (before (now (c .before .before .before .before .before .before .before .before .before .before .args .f)) (c .before .before .before .before .before .before .before .before .before .before .args .n) (c .before .before .before .before .before .before .before .before .before .before .args .number) 0) refl, kept-none (c .before .before .before .before .before .before .before .before .before .before .args .at) (c .before .before .before .before .before .before .before .before .before .before .pre .1 .5), past-later (c .before .before .before .before .before .before .before .before .before .before .args .at) (c .before .before .before .before .before .before .before .before .before .before .args .off) (c .before .before .before .before .before .before .before .before .before .before .pre .1 .6) (omega arith) (omega arith))
 
 struct-written-add-term-written : (t : ℕ) → struct-written-lts.Need-add-term-written (struct-written-uses t) (struct-written-at t) struct-written.Post struct-written-Inv-loop struct-written-μ-loop
 struct-written-add-term-written t c = omega (arith, fld-fits t c)
@@ -271,8 +283,8 @@ struct-written-add-term-written-2 t c = omega (arith, fld-room t (c .before .bef
 
 struct-written-term-written-requires : (t : ℕ) → struct-written-lts.Need-term-written-requires (struct-written-uses t) (struct-written-at t) struct-written.Post struct-written-Inv-loop struct-written-μ-loop
 struct-written-term-written-requires t c κs =
-    let q = c .before .before .before .before .before .before .before .before .before .before .pre in
-    (omega (arith, q .0, q .1 .4 .terms .few, c .before .before .place-of .ensures .1), (c .before .before .place-of .ensures .1, fld-fits t (c .before .before), fld-room t (c .before .before), q .1 .3, q .1 .4, c .before .before .before .before .before .loop .inv .4 .room))
+    let q = c .before .before .before .before .before .before .before .before .before .before .before .before .before .before .before .before .pre in
+    (omega (arith, q .0, q .1 .4 .terms .few, c .before .before .place-of .ensures .1), (c .before .before .place-of .ensures .1, fld-fits t (c .before .before), fld-room t (c .before .before), q .1 .3, q .1 .4, c .before .before .before .before .before .loop .inv .4 .room, (let l = q .1 .0 in omega arith), c .before .before .before .before .before .loop .inv .5))
 
 struct-written-add-size : (t : ℕ) → struct-written-lts.Need-add-size (struct-written-uses t) (struct-written-at t) struct-written.Post struct-written-Inv-loop struct-written-μ-loop
 struct-written-add-size t c = omega (arith, fld-fits t (c .before .before .before .before .before), fld-size t (c .before))
@@ -285,63 +297,140 @@ struct-written-add-j t c = omega (arith, c .before .before .before .before .befo
 
 struct-written-loop-again : (t : ℕ) → struct-written-lts.Need-loop-again (struct-written-uses t) (struct-written-at t) struct-written.Post struct-written-Inv-loop struct-written-μ-loop
 struct-written-loop-again t c =
-    let a = c .before .before .before .before .before .before .before .before .before .before .before .before .before .before .args in
+    let a = c .before .before .before .before .before .before .before .before .before .before .before .before .before .before .before .before .before .before .before .before .args in
     let l = c .before .before .before .before .before .before .before .before .before .loop in
     let x = c .before .before .before .before .before .before in
     let same = fld-same t x in
-    let s = size-next (now (a .f)) (a .n) (a .number) (c .before .before .before .before .before .before .before .before .before .before .before .before .before .before .pre .1 .4 .terms) (a .off) (a .at) (c .before .before .before .before .before .before .before .before .before .before .before .before .before .before .pre .1 .1) (c .before .before .before .before .before .before .before .before .before .before .before .before .before .before .pre .1 .2) (l .j) (l .size) (l .count) (fld-less t x) (l .inv .1) (l .inv .2) in
-    let m = count-next (now (a .f)) (a .n) (a .number) (c .before .before .before .before .before .before .before .before .before .before .before .before .before .before .pre .1 .4 .terms) (a .off) (a .at) (c .before .before .before .before .before .before .before .before .before .before .before .before .before .before .pre .1 .1) (c .before .before .before .before .before .before .before .before .before .before .before .before .before .before .pre .1 .2) (l .j) (l .size) (l .count) (fld-less t x) (l .inv .1) (l .inv .2) in (
+    let s = size-next (now (a .f)) (a .n) (a .number) (c .before .before .before .before .before .before .before .before .before .before .before .before .before .before .before .before .before .before .before .before .pre .1 .4 .terms) (a .off) (a .at) (c .before .before .before .before .before .before .before .before .before .before .before .before .before .before .before .before .before .before .before .before .pre .1 .1) (c .before .before .before .before .before .before .before .before .before .before .before .before .before .before .before .before .before .before .before .before .pre .1 .2) (l .j) (l .size) (l .count) (fld-less t x) (l .inv .1) (l .inv .2) in
+    let m = count-next (now (a .f)) (a .n) (a .number) (c .before .before .before .before .before .before .before .before .before .before .before .before .before .before .before .before .before .before .before .before .pre .1 .4 .terms) (a .off) (a .at) (c .before .before .before .before .before .before .before .before .before .before .before .before .before .before .before .before .before .before .before .before .pre .1 .1) (c .before .before .before .before .before .before .before .before .before .before .before .before .before .before .before .before .before .before .before .before .pre .1 .2) (l .j) (l .size) (l .count) (fld-less t x) (l .inv .1) (l .inv .2) in (
       omega arith,
       ap (λ (y : ℕ). l .size + y) (fld-size t (c .before .before) ∙ ap (λ (L : Layout variable). L .size) same) ∙ s ∙ ap (λ (y : ℕ). before (now (a .f)) (a .n) (a .number) y .size) (sym (add-one (l .j))),
       ap (λ (y : ℕ). l .count + y) (fld-count t (c .before .before) ∙ ap (λ (L : Layout variable). count L) same) ∙ m ∙ ap (λ (y : ℕ). count (before (now (a .f)) (a .n) (a .number) y)) (sym (add-one (l .j))),
       written-same (ap (λ (y : ℕ). before (now (a .f)) (a .n) (a .number) y) (sym (add-one (l .j))))
-          (written-field (now (a .f)) (a .n) (a .number) (c .before .before .before .before .before .before .before .before .before .before .before .before .before .before .pre .1 .4 .terms) (a .off) (a .at) (c .before .before .before .before .before .before .before .before .before .before .before .before .before .before .pre .1 .1) (c .before .before .before .before .before .before .before .before .before .before .before .before .before .before .pre .1 .2) (l .j) (l .size) (l .count) (fld-less t x) (l .inv .1) (l .inv .2)
+          (written-field (now (a .f)) (a .n) (a .number) (c .before .before .before .before .before .before .before .before .before .before .before .before .before .before .before .before .before .before .before .before .pre .1 .4 .terms) (a .off) (a .at) (c .before .before .before .before .before .before .before .before .before .before .before .before .before .before .before .before .before .before .before .before .pre .1 .1) (c .before .before .before .before .before .before .before .before .before .before .before .before .before .before .before .before .before .before .before .before .pre .1 .2) (l .j) (l .size) (l .count) (fld-less t x) (l .inv .1) (l .inv .2)
           (written-kept (c .before .before .before .term-written .ensures .1) (a .at) (before (now (a .f)) (a .n) (a .number) (l .j)) (omega (arith, l .inv .2)) (l .inv .3))
           (written-same same (c .before .before .before .term-written .ensures .0))),
       kept-kept (c .before .before .before .term-written .ensures .1) (a .at) (omega arith) (l .inv .4),
+      past-later (a .at + l .count + count (termLayout (now (a .f)) (a .number) (x .place-of .result))) (a .off + l .size + termLayout (now (a .f)) (a .number) (x .place-of .result) .size) (c .before .before .before .term-written .ensures .2)
+          (omega (arith, fld-count t (c .before .before))) (omega (arith, fld-size t (c .before .before))),
+    )
+
+-- What is known of a struct that is at hand.
+module _ (t : ℕ) (c : struct-written-lts.Then1 (struct-written-uses t) (struct-written-at t) struct-written.Post struct-written-Inv-loop struct-written-μ-loop) where
+  abbrev hnd : Primitive
+  hnd = c .before .before .before .entry .result
+
+  hnd-is : (0 < hnd .place) × (Agree (hnd .to) (c .before .before .before .before .before .before .before .before .args .to))
+  hnd-is = c .before .at-hand .ensures (c .if1 .taken)
+
+  hnd-past : PastOf (now (c .before .before .before .before .before .before .before .before .args .f)) (now (c .before .before .before .before .before .before .before .before .args .subs)) (now (c .before .before .before .before .before .before .before .before .args .spots)) (c .before .before .before .before .before .before .before .before .args .at) (c .before .before .before .before .before .before .before .before .args .off) (c .before .before .before .before .before .before .before .before .args .number) hnd
+  hnd-past =
+      subst (λ (r : Primitive). PastOf (now (c .before .before .before .before .before .before .before .before .args .f)) (now (c .before .before .before .before .before .before .before .before .args .subs)) (now (c .before .before .before .before .before .before .before .before .args .spots)) (c .before .before .before .before .before .before .before .before .args .at) (c .before .before .before .before .before .before .before .before .args .off) (c .before .before .before .before .before .before .before .before .args .number) r) (sym (c .before .before .before .entry .ensures))
+      (c .before .before .before .before .before .before .before .before .pre .1 .6 .each (c .before .before .before .before .before .before .before .before .args .number) (c .before .before .before .before .before .before .before .before .pre .1 .0) (subst (λ (r : Primitive). 0 < r .place) (c .before .before .before .entry .ensures) (hnd-is .0)))
+
+struct-written-add-entry : (t : ℕ) → struct-written-lts.Need-add-entry (struct-written-uses t) (struct-written-at t) struct-written.Post struct-written-Inv-loop struct-written-μ-loop
+struct-written-add-entry t c = omega (arith, c .before .before .before .before .pre .1 .0)
+
+struct-written-entry-requires : (t : ℕ) → struct-written-lts.Need-entry-requires (struct-written-uses t) (struct-written-at t) struct-written.Post struct-written-Inv-loop struct-written-μ-loop
+struct-written-entry-requires t c κs = omega (arith, c .before .before .before .before .pre .1 .0)
+
+struct-written-sub-shifted : (t : ℕ) → struct-written-lts.Need-sub-shifted (struct-written-uses t) (struct-written-at t) struct-written.Post struct-written-Inv-loop struct-written-μ-loop
+struct-written-sub-shifted t c = omega (arith, hnd-is t (c .before .before) .0)
+
+struct-written-sub-shifted-2 : (t : ℕ) → struct-written-lts.Need-sub-shifted-2 (struct-written-uses t) (struct-written-at t) struct-written.Post struct-written-Inv-loop struct-written-μ-loop
+struct-written-sub-shifted-2 t c = omega (arith, hnd-past t (c .before .before) .nearer)
+
+struct-written-shifted-requires : (t : ℕ) → struct-written-lts.Need-shifted-requires (struct-written-uses t) (struct-written-at t) struct-written.Post struct-written-Inv-loop struct-written-μ-loop
+struct-written-shifted-requires t c κs =
+    let q = c .before .before .before .before .before .before .before .before .before .before .pre .1 in
+    let p = hnd-past t (c .before .before) in
+    let e = q .7 in (
+      omega (arith, p .behind),
+      omega (arith, q .2),
+      q .5,
+      λ i l. (let n = p .is .near i (omega arith) in (omega (arith, n .0, p .nearer, q .1), n .1)),
     )
 
 struct-written-returns : (t : ℕ) → struct-written-lts.Need-returns (struct-written-uses t) (struct-written-at t) struct-written.Post struct-written-Inv-loop struct-written-μ-loop
 struct-written-returns t c =
-    let a = c .before .before .before .before .before .before .args in
-    let l = c .before .loop in
-    let e : l .j ≡ fieldCount (now (a .f)) (a .n) (a .number) = (let b = ap (λ (x : Record). x .b) (c .before .before .before .record-at .ensures) in let h = c .loop-test .left in let m = l .inv .0 in omega arith) in (
-      written-same (ap (before (now (a .f)) (a .n) (a .number)) e ∙ sym (struct-fields (now (a .f)) (a .n) (a .number) (c .before .before .before .before .before .before .pre .1 .4 .terms))) (l .inv .3),
-      l .inv .4,
+    let a = c .before .before .before .before .before .before .before .before .before .before .before .args in
+    let q = c .before .before .before .before .before .before .before .before .before .before .before .pre .1 in
+    let p = hnd-past t (c .before .before .before) in
+    let L = structLayout (now (a .f)) (a .number) in (
+      written-off (let n = p .nearer in omega arith) (written-shifted L (q .7) (agree-written L (hnd-is t (c .before .before .before) .1) (p .is)) (c .shifted .ensures)),
+      c .shifted .ensures .kept,
+      past-later (a .at) (a .off) (past-kept (a .at) (a .off) (q .6) (c .shifted .ensures .kept) (omega arith) (c .shifted .ensures .memo)) (omega arith) (omega arith),
+    )
+
+struct-written-add-put : (t : ℕ) → struct-written-lts.Need-add-put (struct-written-uses t) (struct-written-at t) struct-written.Post struct-written-Inv-loop struct-written-μ-loop
+struct-written-add-put t c = omega (arith, c .before .before .before .before .before .before .before .before .before .before .before .before .before .before .pre .1 .0)
+
+struct-written-add-put-2 : (t : ℕ) → struct-written-lts.Need-add-put-2 (struct-written-uses t) (struct-written-at t) struct-written.Post struct-written-Inv-loop struct-written-μ-loop
+struct-written-add-put-2 t c = (let q = c .before .before .before .before .before .before .before .before .before .before .before .before .before .before .pre .1 in omega (arith, q .2))
+
+struct-written-put-requires : (t : ℕ) → struct-written-lts.Need-put-requires (struct-written-uses t) (struct-written-at t) struct-written.Post struct-written-Inv-loop struct-written-μ-loop
+struct-written-put-requires t c κs = (let q = c .before .before .before .before .before .before .before .before .before .before .before .before .before .before .pre .1 in (omega (arith, q .0), omega (arith, q .2, q .7, q .8), omega (arith, q .1)))
+
+-- What is known of a struct once its fields are written.
+module _ (t : ℕ) (c : struct-written-lts.After-loop (struct-written-uses t) (struct-written-at t) struct-written.Post struct-written-Inv-loop struct-written-μ-loop) where
+  end-fields : before (now (c .before .before .before .before .before .before .before .before .before .before .before .before .args .f)) (c .before .before .before .before .before .before .before .before .before .before .before .before .args .n) (c .before .before .before .before .before .before .before .before .before .before .before .before .args .number) (c .before .loop .j) ≡ structLayout (now (c .before .before .before .before .before .before .before .before .before .before .before .before .args .f)) (c .before .before .before .before .before .before .before .before .before .before .before .before .args .number)
+  end-fields =
+      let a = c .before .before .before .before .before .before .before .before .before .before .before .before .args in
+      let e : c .before .loop .j ≡ fieldCount (now (a .f)) (a .n) (a .number) = (let b = ap (λ (x : Record). x .b) (c .before .before .before .record-at .ensures) in let h = c .loop-test .left in let m = c .before .loop .inv .0 in omega arith) in
+      ap (before (now (a .f)) (a .n) (a .number)) e ∙ sym (struct-fields (now (a .f)) (a .n) (a .number) (c .before .before .before .before .before .before .before .before .before .before .before .before .pre .1 .4 .terms))
+
+  end-past : Past (now (c .before .before .before .before .before .before .before .before .before .before .before .before .args .f)) (c .before .loop .subs) (c .before .loop .spots) (c .before .before .before .before .before .before .before .before .before .before .before .before .args .at + count (structLayout (now (c .before .before .before .before .before .before .before .before .before .before .before .before .args .f)) (c .before .before .before .before .before .before .before .before .before .before .before .before .args .number))) (c .before .before .before .before .before .before .before .before .before .before .before .before .args .off + structLayout (now (c .before .before .before .before .before .before .before .before .before .before .before .before .args .f)) (c .before .before .before .before .before .before .before .before .before .before .before .before .args .number) .size)
+  end-past =
+      let l = c .before .loop in
+      past-later (c .before .before .before .before .before .before .before .before .before .before .before .before .args .at + l .count) (c .before .before .before .before .before .before .before .before .before .before .before .before .args .off + l .size) (l .inv .5)
+      (omega (arith, l .inv .2, ap (λ (L : Layout variable). count L) end-fields)) (omega (arith, l .inv .1, ap (λ (L : Layout variable). L .size) end-fields))
+
+struct-written-returns-2 : (t : ℕ) → struct-written-lts.Need-returns-2 (struct-written-uses t) (struct-written-at t) struct-written.Post struct-written-Inv-loop struct-written-μ-loop
+struct-written-returns-2 t c =
+    let a = c .before .before .before .before .before .before .before .before .before .before .before .before .before .before .before .args in
+    let q = c .before .before .before .before .before .before .before .before .before .before .before .before .before .before .before .pre .1 in
+    let l = c .before .before .before .before .loop in
+    let L = structLayout (now (a .f)) (a .number) in
+    let w = written-same (end-fields t (c .before .before .before)) (l .inv .3) in
+    let fits : a .off ≤ 256 = omega (arith, q .1) in (
+      put-written (a .number) (a .at) (a .to) (a .off) (a .at + count L) (a .off + L .size) (l .inv .4 .room) (end-past t (c .before .before .before)) w (q .0) fits (omega arith) (q .2) (omega arith) (c .put .ensures .0) (c .put .ensures .1),
+      kept-kept (put-kept (a .number) (a .at) (a .to) (a .off) (a .at + count L) (a .off + L .size) (l .inv .4 .room) (end-past t (c .before .before .before)) w (q .0) fits (omega arith) (q .2) (omega arith) (c .put .ensures .0) (c .put .ensures .1)) (a .at) (omega arith) (l .inv .4),
+      past-put (a .number) (a .at) (a .to) (a .off) (a .at + count L) (a .off + L .size) (l .inv .4 .room) (end-past t (c .before .before .before)) w (q .0) fits (omega arith) (q .2) (omega arith) (c .put .ensures .0) (c .put .ensures .1),
     )
 
 -- What is known of a term once its core is read, in plain names.
 module _ (t : ℕ) (c : term-written-lts.After-core-in (term-written-uses t) (term-written-at t) term-written.Post) where
   abbrev trm-f : List ℕ
-  trm-f = now (c .before .before .before .before .before .before .args .f)
+  trm-f = now (c .before .before .before .before .before .args .f)
 
   abbrev trm-k : ℕ
-  trm-k = c .before .before .before .before .before .before .args .k
+  trm-k = c .before .before .before .before .before .args .k
 
   abbrev trm-p : ℕ
   trm-p = c .core-in .result
 
-  trm-core : Core trm-f (c .before .before .before .before .before .before .args .p) trm-p
-  trm-core = subst (λ (x : ℕ). Core trm-f (c .before .before .before .before .before .before .args .p) x) (sym (c .core-in .ensures)) (c .before .before .before .before .before .before .pre .1 .4 .cores (c .before .before .before .before .before .before .args .p) (c .before .before .before .before .before .before .pre .1 .0))
+  trm-core : Core trm-f (c .before .before .before .before .before .args .p) trm-p
+  trm-core = subst (λ (x : ℕ). Core trm-f (c .before .before .before .before .before .args .p) x) (sym (c .core-in .ensures)) (c .before .before .before .before .before .pre .1 .4 .cores (c .before .before .before .before .before .args .p) (c .before .before .before .before .before .pre .1 .0))
 
-  trm-low : trm-p ≤ c .before .before .before .before .before .before .args .n
-  trm-low = let l = trm-core .low in omega (arith, c .before .before .before .before .before .before .pre .1 .0)
+  trm-low : trm-p ≤ c .before .before .before .before .before .args .n
+  trm-low = let l = trm-core .low in omega (arith, c .before .before .before .before .before .pre .1 .0)
 
-  trm-same : termLayout trm-f trm-k (c .before .before .before .before .before .before .args .p) ≡ termLayout trm-f trm-k trm-p
-  trm-same = trm-core .same trm-k (let l = c .before .before .before .before .before .before .pre .1 .1 in omega arith)
+  trm-same : termLayout trm-f trm-k (c .before .before .before .before .before .args .p) ≡ termLayout trm-f trm-k trm-p
+  trm-same = trm-core .same trm-k (let l = c .before .before .before .before .before .pre .1 .1 in omega arith)
 
-  trm-fits : c .before .before .before .before .before .before .args .off + termLayout trm-f trm-k trm-p .size ≤ 256
-  trm-fits = subst (λ (L : Layout variable). c .before .before .before .before .before .before .args .off + L .size ≤ 256) trm-same (c .before .before .before .before .before .before .pre .1 .1)
+  trm-fits : c .before .before .before .before .before .args .off + termLayout trm-f trm-k trm-p .size ≤ 256
+  trm-fits = subst (λ (L : Layout variable). c .before .before .before .before .before .args .off + L .size ≤ 256) trm-same (c .before .before .before .before .before .pre .1 .1)
 
-  trm-room : c .before .before .before .before .before .before .args .at + count (termLayout trm-f trm-k trm-p) ≤ 256
-  trm-room = subst (λ (L : Layout variable). c .before .before .before .before .before .before .args .at + count L ≤ 256) trm-same (c .before .before .before .before .before .before .pre .1 .2)
+  trm-room : c .before .before .before .before .before .args .at + count (termLayout trm-f trm-k trm-p) ≤ 256
+  trm-room = subst (λ (L : Layout variable). c .before .before .before .before .before .args .at + count L ≤ 256) trm-same (c .before .before .before .before .before .pre .1 .2)
+
+  trm-all : c .before .before .extent-in .result .count ≡ count (termLayout trm-f trm-k trm-p)
+  trm-all =
+      ap (λ (x : Extent). x .count) (c .before .before .extent-in .ensures ∙ c .before .before .before .before .before .pre .1 .4 .entries (c .before .before .before .before .before .args .p) (c .before .before .before .before .before .pre .1 .0) (let l = c .before .before .before .before .before .pre .1 .1 in omega arith))
+      ∙ ap (λ (L : Layout variable). count L) trm-same
 
   trm-some : 0 < count (termLayout trm-f trm-k trm-p)
-  trm-some =
-      let e = ap (λ (x : Extent). x .count) (c .before .before .before .extent-in .ensures ∙ c .before .before .before .before .before .before .pre .1 .4 .entries (c .before .before .before .before .before .before .args .p) (c .before .before .before .before .before .before .pre .1 .0) (let l = c .before .before .before .before .before .before .pre .1 .1 in omega arith)) in
-      let s = ap (λ (L : Layout variable). count L) trm-same in
-      let z = c .before .if1 .left in
-      omega arith
+  trm-some = let e = trm-all in let z = c .before .if1 .left in omega arith
 
 -- of an array
 module _ (t : ℕ) (c : term-written-lts.After-many (term-written-uses t) (term-written-at t) term-written.Post) where
@@ -349,17 +438,17 @@ module _ (t : ℕ) (c : term-written-lts.After-many (term-written-uses t) (term-
   arr-head = sym (c .before .before .head-of .ensures .0) ∙ c .many .given .1
 
   arr-is : termLayout (trm-f t (c .before .before .before)) (trm-k t (c .before .before .before)) (trm-p t (c .before .before .before)) ≡ copiesOf (c .many .given .0 .0) (termLayout (trm-f t (c .before .before .before)) (trm-k t (c .before .before .before)) (c .many .given .0 .1 .0))
-  arr-is = arr-layout (trm-f t (c .before .before .before)) (trm-k t (c .before .before .before)) (trm-p t (c .before .before .before)) (c .before .before .before .before .before .before .before .before .before .args .off) 0 (c .before .before .before .before .before .before .before .before .before .args .t5) _ _ arr-head (trm-fits t (c .before .before .before)) (trm-some t (c .before .before .before))
+  arr-is = arr-layout (trm-f t (c .before .before .before)) (trm-k t (c .before .before .before)) (trm-p t (c .before .before .before)) (c .before .before .before .before .before .before .before .before .args .off) 0 (c .before .before .before .before .before .before .before .before .args .t5) _ _ arr-head (trm-fits t (c .before .before .before)) (trm-some t (c .before .before .before))
 
 term-written-returns : (t : ℕ) → term-written-lts.Need-returns (term-written-uses t) (term-written-at t) term-written.Post
 term-written-returns t c =
-    let a = c .before .before .before .before .before .args in
-    let e = ap (λ (x : Extent). x .count) (c .before .before .extent-in .ensures ∙ c .before .before .before .before .before .pre .1 .4 .entries (a .p) (c .before .before .before .before .before .pre .1 .0) (let l = c .before .before .before .before .before .pre .1 .1 in omega arith)) in
-    (written-none (termLayout (now (a .f)) (a .k) (a .p)) (sym e ∙ c .if1 .taken), kept-none (a .at) (c .before .before .before .before .before .pre .1 .5))
+    let a = c .before .before .before .before .args in
+    let e = ap (λ (x : Extent). x .count) (c .before .extent-in .ensures ∙ c .before .before .before .before .pre .1 .4 .entries (a .p) (c .before .before .before .before .pre .1 .0) (let l = c .before .before .before .before .pre .1 .1 in omega arith)) in
+    (written-none (termLayout (now (a .f)) (a .k) (a .p)) (sym e ∙ c .if1 .taken), kept-none (a .at) (c .before .before .before .before .pre .1 .5), past-later (a .at) (a .off) (c .before .before .before .before .pre .1 .7) (omega arith) (omega arith))
 
 term-written-copies-written-requires : (t : ℕ) → term-written-lts.Need-copies-written-requires (term-written-uses t) (term-written-at t) term-written.Post
 term-written-copies-written-requires t c κs =
-    let q = c .before .before .before .before .before .before .before .before .before .before .before .before .pre in
+    let q = c .before .before .before .before .before .before .before .before .before .before .before .pre in
     let L = termLayout (trm-f t (c .before .before .before .before .before .before)) (trm-k t (c .before .before .before .before .before .before)) (c .before .before .before .many .given .0 .1 .0) in
     let n = c .before .before .before .many .given .0 .0 in
     let e = arr-is t (c .before .before .before) in
@@ -368,20 +457,27 @@ term-written-copies-written-requires t c κs =
     let l = fair-at (trm-p t (c .before .before .before .before .before .before)) _ _ (c .before .before .before .before .before .head-of .ensures .1) (c .before .before .before .many .given .1) .0 in
     let w = trm-core t (c .before .before .before .before .before .before) .low in (
       omega (arith, q .0),
-      (omega (arith, q .1 .0), omega (arith, trm-fits t (c .before .before .before .before .before .before), size-copiesOf n L), omega (arith, trm-room t (c .before .before .before .before .before .before), count-copiesOf n L), q .1 .3, q .1 .4, q .1 .5),
+      (omega (arith, q .1 .0), omega (arith, trm-fits t (c .before .before .before .before .before .before), size-copiesOf n L), omega (arith, trm-room t (c .before .before .before .before .before .before), count-copiesOf n L), q .1 .3, q .1 .4, q .1 .5, q .1 .6, q .1 .7),
     )
 
 term-written-returns-2 : (t : ℕ) → term-written-lts.Need-returns-2 (term-written-uses t) (term-written-at t) term-written.Post
-term-written-returns-2 t c =
-    (written-same (sym (trm-same t (c .before .before .before .before .before .before .before) ∙ arr-is t (c .before .before .before .before))) (c .copies-written .ensures .0), c .copies-written .ensures .1)
+term-written-returns-2 t c = (
+  written-same (sym (trm-same t (c .before .before .before .before .before .before .before) ∙ arr-is t (c .before .before .before .before))) (c .copies-written .ensures .0),
+  c .copies-written .ensures .1,
+  (let e = trm-same t (c .before .before .before .before .before .before .before) ∙ arr-is t (c .before .before .before .before) in
+      let n = c .before .before .before .before .many .given .0 .0 in
+      let L = termLayout (trm-f t (c .before .before .before .before .before .before .before)) (trm-k t (c .before .before .before .before .before .before .before)) (c .before .before .before .before .many .given .0 .1 .0) in
+      past-later (c .before .before .before .before .before .before .before .before .before .before .before .before .args .at + n * count L) (c .before .before .before .before .before .before .before .before .before .before .before .before .args .off + n * L .size) (c .copies-written .ensures .2)
+      (omega (arith, ap (λ (M : Layout variable). count M) e, count-copiesOf n L)) (omega (arith, ap (λ (M : Layout variable). M .size) e, size-copiesOf n L))),
+)
 
 term-written-arguments-requires : (t : ℕ) → term-written-lts.Need-arguments-requires (term-written-uses t) (term-written-at t) term-written.Post
-term-written-arguments-requires t c κs = subst Few (sym (c .before .before .before .before .before .head-of .ensures .0) ∙ c .before .before .before .number .given .1) (c .before .before .before .before .before .before .before .before .before .before .before .before .pre .1 .4 .few (trm-p t (c .before .before .before .before .before .before)) (trm-low t (c .before .before .before .before .before .before)))
+term-written-arguments-requires t c κs = subst Few (sym (c .before .before .before .before .before .head-of .ensures .0) ∙ c .before .before .before .number .given .1) (c .before .before .before .before .before .before .before .before .before .before .before .pre .1 .4 .few (trm-p t (c .before .before .before .before .before .before)) (trm-low t (c .before .before .before .before .before .before)))
 
 term-written-struct-written-requires : (t : ℕ) → term-written-lts.Need-struct-written-requires (term-written-uses t) (term-written-at t) term-written.Post
 term-written-struct-written-requires t c κs =
-    let a = c .before .before .before .before .before .before .before .before .before .before .before .before .before .before .before .args in
-    let q = c .before .before .before .before .before .before .before .before .before .before .before .before .before .before .before .pre in
+    let a = c .before .before .before .before .before .before .before .before .before .before .before .before .before .before .args in
+    let q = c .before .before .before .before .before .before .before .before .before .before .before .before .before .before .pre in
     let x = c .before .before .before .before .before .before .before .before .before in
     let head = sym (c .before .before .before .before .before .before .before .before .head-of .ensures .0) ∙ c .before .before .before .before .before .before .number .given .1 in
     let l = c .before .before .before .before .if2 .taken in
@@ -390,58 +486,65 @@ term-written-struct-written-requires t c κs =
     let w = fair-at (trm-p t x) _ _ (c .before .before .before .before .before .before .before .before .head-of .ensures .1) (c .before .before .before .before .before .before .number .given .1) .0 in (
       omega (arith, q .0),
       (
-        w,
+        omega (arith, q .1 .6),
         omega (arith, trm-fits t x),
         omega (arith, trm-room t x),
         keeps-args (a .t5) (c .before .before .arguments .result) _ _ (subst Few head (q .1 .4 .few (trm-p t x) (trm-low t x))) (c .before .before .arguments .ensures),
         known-less (now (a .f)) (a .n) _ (a .k) (now (a .tab)) (omega arith) (q .1 .4),
         q .1 .5,
+        q .1 .7,
+        trm-all t x ∙ sym m,
+        (let z = trm-some t x in omega (arith, trm-all t x)),
       ),
     )
 
 term-written-returns-3 : (t : ℕ) → term-written-lts.Need-returns-3 (term-written-uses t) (term-written-at t) term-written.Post
 term-written-returns-3 t c =
-    let a = c .before .before .before .before .before .before .before .before .before .before .before .before .before .before .before .before .args in
+    let a = c .before .before .before .before .before .before .before .before .before .before .before .before .before .before .before .args in
     let x = c .before .before .before .before .before .before .before .before .before .before in
     let head = sym (c .before .before .before .before .before .before .before .before .before .head-of .ensures .0) ∙ c .before .before .before .before .before .before .before .number .given .1 in
     let l = c .before .before .before .before .before .if2 .taken in (
       written-same (sym (trm-same t x))
-          (written-struct (a .k) (trm-p t x) _ _ _ head l (c .before .before .before .arguments .result) (c .before .before .before .before .before .before .before .before .before .before .before .before .before .before .before .before .pre .1 .3) (c .before .before .before .arguments .ensures) (c .struct-written .ensures .0)),
+          (written-struct (a .k) (trm-p t x) _ _ _ head l (c .before .before .before .arguments .result) (c .before .before .before .before .before .before .before .before .before .before .before .before .before .before .before .pre .1 .3) (c .before .before .before .arguments .ensures) (c .struct-written .ensures .0)),
       c .struct-written .ensures .1,
+      (let s = struct-size (now (a .f)) (a .k) (trm-p t x) (a .off) 0 (a .t5) _ _ _ head l in
+          let m = struct-count (now (a .f)) (a .k) (trm-p t x) (a .off) 0 (a .t5) _ _ _ head l in
+          past-later _ _ (c .struct-written .ensures .2) (omega (arith, m, ap (λ (M : Layout variable). count M) (trm-same t x))) (omega (arith, s, ap (λ (M : Layout variable). M .size) (trm-same t x)))),
     )
 
 term-written-returns-4 : (t : ℕ) → term-written-lts.Need-returns-4 (term-written-uses t) (term-written-at t) term-written.Post
 term-written-returns-4 t c =
-    let a = c .before .before .before .before .before .before .before .before .before .before .before .args in (
+    let a = c .before .before .before .before .before .before .before .before .before .before .args in (
       written-same (sym (trm-same t (c .before .before .before .before .before))) (written-unknown (a .k) (trm-p t (c .before .before .before .before .before)) _ _ _ (sym (c .before .before .before .before .head-of .ensures .0) ∙ c .before .before .number .given .1) (c .if2 .left)),
-      kept-none (a .at) (c .before .before .before .before .before .before .before .before .before .before .before .pre .1 .5),
+      kept-none (a .at) (c .before .before .before .before .before .before .before .before .before .before .pre .1 .5),
+      past-later (a .at) (a .off) (c .before .before .before .before .before .before .before .before .before .before .pre .1 .7) (omega arith) (omega arith),
     )
 
 term-written-put-requires : (t : ℕ) → term-written-lts.Need-put-requires (term-written-uses t) (term-written-at t) term-written.Post
 term-written-put-requires t c κs =
     let x = c .before .before .before .before .before in
-    (omega (arith, trm-room t x, trm-some t x), omega (arith, trm-low t x, c .before .before .before .before .before .before .before .before .before .before .before .pre .1 .4 .terms .few), omega (arith, trm-fits t x))
+    (omega (arith, trm-room t x, trm-some t x), omega (arith, trm-low t x, c .before .before .before .before .before .before .before .before .before .before .pre .1 .4 .terms .few), omega (arith, trm-fits t x))
 
 term-written-put-requires-2 : (t : ℕ) → term-written-lts.Need-put-requires-2 (term-written-uses t) (term-written-at t) term-written.Post
 term-written-put-requires-2 t c κs =
     let x = c .before .before .before .before .before in
-    (omega (arith, trm-room t x, trm-some t x), omega (arith, trm-low t x, c .before .before .before .before .before .before .before .before .before .before .before .pre .1 .4 .terms .few), omega (arith, trm-fits t x))
+    (omega (arith, trm-room t x, trm-some t x), omega (arith, trm-low t x, c .before .before .before .before .before .before .before .before .before .before .pre .1 .4 .terms .few), omega (arith, trm-fits t x))
 
 term-written-returns-5 : (t : ℕ) → term-written-lts.Need-returns-5 (term-written-uses t) (term-written-at t) term-written.Post
 term-written-returns-5 t c =
-    let a = c .before .before .before .before .before .before .before .before .before .before .before .before .args in
+    let a = c .before .before .before .before .before .before .before .before .before .before .before .args in
     let x = c .before .before .before .before .before .before in
-    let w = put-single (c .before .before .before .before .before .before .before .before .before .before .before .before .pre .1 .5) (a .at) (trm-p t x) (a .t5) (a .off) (omega (arith, trm-room t x, trm-some t x)) (omega (arith, trm-fits t x)) (now (a .f)) (a .k) _ (omega (arith, trm-low t x, c .before .before .before .before .before .before .before .before .before .before .before .before .pre .1 .4 .terms .few))
+    let w = put-single (c .before .before .before .before .before .before .before .before .before .before .before .pre .1 .5) (a .at) (trm-p t x) (a .t5) (a .off) (omega (arith, trm-room t x, trm-some t x)) (omega (arith, trm-fits t x)) (now (a .f)) (a .k) _ (omega (arith, trm-low t x, c .before .before .before .before .before .before .before .before .before .before .before .pre .1 .4 .terms .few))
     (single-int (now (a .f)) (a .k) (trm-p t x) (a .off) 0 (a .t5) _ (sym (c .before .before .before .before .before .head-of .ensures .0) ∙ c .before .before .before .enum-told .given .1)) (c .put .ensures .0) (c .put .ensures .1) in
-    (written-same (sym (trm-same t x)) (w .0), w .1)
+    (written-same (sym (trm-same t x)) (w .0), w .1, past-later (a .at) (a .off) (past-kept (a .at) (a .off) (c .before .before .before .before .before .before .before .before .before .before .before .pre .1 .7) (w .1) (omega arith) (put-memo (c .before .before .before .before .before .before .before .before .before .before .before .pre .1 .5) (a .at) (trm-p t x) (a .t5) (a .off) (let z = trm-some t x in omega (arith, trm-room t x)) (omega (arith, trm-fits t x)) (let z = trm-some t x in omega (arith, trm-room t x)) (c .put .ensures .0) (c .put .ensures .1))) (omega arith) (omega arith))
 
 term-written-returns-6 : (t : ℕ) → term-written-lts.Need-returns-6 (term-written-uses t) (term-written-at t) term-written.Post
 term-written-returns-6 t c =
-    let a = c .before .before .before .before .before .before .before .before .before .before .before .before .args in
+    let a = c .before .before .before .before .before .before .before .before .before .before .before .args in
     let x = c .before .before .before .before .before .before in
-    let w = put-single (c .before .before .before .before .before .before .before .before .before .before .before .before .pre .1 .5) (a .at) (trm-p t x) (a .t5) (a .off) (omega (arith, trm-room t x, trm-some t x)) (omega (arith, trm-fits t x)) (now (a .f)) (a .k) _ (omega (arith, trm-low t x, c .before .before .before .before .before .before .before .before .before .before .before .before .pre .1 .4 .terms .few))
+    let w = put-single (c .before .before .before .before .before .before .before .before .before .before .before .pre .1 .5) (a .at) (trm-p t x) (a .t5) (a .off) (omega (arith, trm-room t x, trm-some t x)) (omega (arith, trm-fits t x)) (now (a .f)) (a .k) _ (omega (arith, trm-low t x, c .before .before .before .before .before .before .before .before .before .before .before .pre .1 .4 .terms .few))
     (single-ptr (now (a .f)) (a .k) (trm-p t x) (a .off) 0 (a .t5) _ _ (sym (c .before .before .before .before .before .head-of .ensures .0) ∙ c .before .before .before .enum-told2 .given .1)) (c .put2 .ensures .0) (c .put2 .ensures .1) in
-    (written-same (sym (trm-same t x)) (w .0), w .1)
+    (written-same (sym (trm-same t x)) (w .0), w .1, past-later (a .at) (a .off) (past-kept (a .at) (a .off) (c .before .before .before .before .before .before .before .before .before .before .before .pre .1 .7) (w .1) (omega arith) (put-memo (c .before .before .before .before .before .before .before .before .before .before .before .pre .1 .5) (a .at) (trm-p t x) (a .t5) (a .off) (let z = trm-some t x in omega (arith, trm-room t x)) (omega (arith, trm-fits t x)) (let z = trm-some t x in omega (arith, trm-room t x)) (c .put2 .ensures .0) (c .put2 .ensures .1))) (omega arith) (omega arith))
 
 pub +copies-written+struct-written+term-written-spec : {M : Type 1} → statement M
 +copies-written+struct-written+term-written-spec =
@@ -467,6 +570,13 @@ pub +copies-written+struct-written+term-written-spec : {M : Type 1} → statemen
     struct-written.Post
     struct-written-Inv-loop
     struct-written-μ-loop
+    (struct-written-add-entry t)
+    (struct-written-entry-requires t)
+    (λ c κs. search needs)
+    (struct-written-sub-shifted t)
+    (struct-written-sub-shifted-2 t)
+    (struct-written-shifted-requires t)
+    (struct-written-returns t)
     (struct-written-mul-first t)
     (struct-written-add-first t)
     (λ c κs. search needs)
@@ -485,7 +595,10 @@ pub +copies-written+struct-written+term-written-spec : {M : Type 1} → statemen
     (struct-written-add-j t)
     (λ c. search needs)
     (struct-written-loop-again t)
-    (struct-written-returns t))
+    (struct-written-add-put t)
+    (struct-written-add-put-2 t)
+    (struct-written-put-requires t)
+    (struct-written-returns-2 t))
     λ t. term-written-lts.spec (term-written-uses t)
     (term-written-at t)
     term-written.Post
