@@ -1,6 +1,6 @@
 //! Nanoseconds a record of the two checkers, best of several rounds in one run, on accepted modules
-//! of 1 to 64 blocks that are full of instructions of every form, and on one that is made to be
-//! slow. Built with the feature `librcm` and the folder of `librcm.a` in RCM_LIB_DIR.
+//! of 1 to 64 blocks that are full of instructions of every form, and on three that are made to
+//! be slow. Built with the feature `librcm` and the folder of `librcm.a` in RCM_LIB_DIR.
 
 use reference::builder::{code, file, record, FunctionBuilder, ModuleBuilder};
 use reference::compare::Interface;
@@ -81,28 +81,85 @@ fn module(blocks: usize) -> Vec<u8> {
     file(&records)
 }
 
-/// A module of 64 blocks in which each instruction compares 256 primitives: those of a struct in a
-/// struct, 31 deep, with those of an array.
-fn nested() -> Vec<u8> {
-    let depth = 31;
+/// A field of a struct: so many i8, or a struct of a lower number with its regions.
+#[derive(Clone, PartialEq)]
+enum Field {
+    Bytes(u32),
+    Struct(u8, Vec<u8>),
+}
+
+fn plain(number: u8) -> Field {
+    Field::Struct(number, vec![])
+}
+
+/// Structs 31 deep, each a byte and the next, 256 bytes in all.
+fn deep() -> Vec<Vec<Field>> {
+    let mut structs = vec![vec![Field::Bytes(226)]];
+    structs.extend((0..30).map(|inner| vec![Field::Bytes(1), plain(inner)]));
+    structs
+}
+
+/// 252 structs side by side, each of one byte that lies 28 structs deep, and four bytes.
+fn wide() -> Vec<Vec<Field>> {
+    let mut structs = vec![vec![Field::Bytes(1)]];
+    structs.extend((0..27).map(|inner| vec![plain(inner)]));
+    structs.push(vec![plain(27); 7]);
+    structs.push(vec![plain(28); 6]);
+    structs.push([vec![plain(29); 6], vec![Field::Bytes(4)]].concat());
+    structs
+}
+
+/// 256 structs side by side, each of one byte that lies 23 structs deep, twice as many at each of
+/// eight levels, with four regions that change their places from one to the next.
+fn permuted() -> Vec<Vec<Field>> {
+    let orders =
+        [[0, 1, 2, 3], [1, 0, 2, 3], [1, 2, 3, 0], [0, 2, 1, 3], [3, 2, 1, 0], [2, 3, 0, 1]];
+    let inside = |inner: u8, order: usize| Field::Struct(inner, orders[order % 6].to_vec());
+    let mut structs = vec![vec![Field::Bytes(1)]];
+    for inner in 0..30 {
+        let order = usize::from(inner);
+        let mut fields = vec![inside(inner, 5 * order + 2)];
+        if inner >= 22 {
+            fields.push(inside(inner, 7 * order + 1));
+        }
+        structs.push(fields);
+    }
+    structs
+}
+
+/// A module of 64 blocks in which each instruction compares 256 primitives: those of the last of
+/// these structs, of so many regions, with those of an array.
+fn slow(structs: &[Vec<Field>], regions: u8) -> Vec<u8> {
     let mut module = ModuleBuilder::new();
     let i32_term = module.integer(4);
     let i8_term = module.integer(1);
-    let rest = module.array(i8_term, 256 - (depth as u32 - 1));
     let array = module.array(i8_term, 256);
-    let structs: Vec<u8> = (0..depth).map(|name| module.name_term(name, &[])).collect();
-    let to_struct = module.pointer(structs[depth as usize - 1], 0);
+    let mut known: Vec<(Field, u8)> = vec![];
+    let mut term = |field: &Field| {
+        if let Some((_, term)) = known.iter().find(|(other, _)| other == field) {
+            return *term;
+        }
+        let term = match field {
+            Field::Bytes(count) => module.array(i8_term, *count),
+            Field::Struct(number, arguments) => module.name_term(*number, arguments),
+        };
+        known.push((field.clone(), term));
+        term
+    };
+    let fields: Vec<Vec<u8>> =
+        structs.iter().map(|fields| fields.iter().map(&mut term).collect()).collect();
+    let last = term(&Field::Struct(structs.len() as u8 - 1, (0..regions).collect()));
+    let to_struct = module.pointer(last, 0);
     let to_array = module.pointer(array, 0);
-    module.name(0, &[rest]);
-    for inner in &structs[..depth as usize - 1] {
-        module.name(0, &[i8_term, *inner]);
+    for fields in &fields {
+        module.name(regions, fields);
     }
     for _ in 0..4 {
         let pair = [code::new(1), code::field(2, 1, 0)];
-        let mut code: Vec<Record> = pair.into_iter().cycle().take(950).collect();
+        let mut code: Vec<Record> = pair.into_iter().cycle().take(940).collect();
         code.push(code::ret(0));
         module.function(&FunctionBuilder {
-            regions: vec![array],
+            regions: vec![array; usize::from(regions.max(1))],
             region_parameters: 0,
             registers: vec![i32_term, to_struct, to_array],
             parameters: 0,
@@ -148,6 +205,9 @@ fn main() {
     for blocks in [1, 4, 16, 64] {
         row(&module(blocks), 200);
     }
-    println!("each instruction on 256 primitives of structs 31 deep:");
-    row(&nested(), 1);
+    println!("made to be slow, each instruction on 256 primitives of structs:");
+    println!("31 deep; 252 side by side, 28 deep; 256 side by side, 23 deep, regions permuted");
+    row(&slow(&deep(), 0), 1);
+    row(&slow(&wide(), 0), 1);
+    row(&slow(&permuted(), 4), 1);
 }
