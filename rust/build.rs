@@ -29,7 +29,7 @@ fn main() {
         let library = Path::new(&folder).join("libplain.a").display().to_string();
         println!("cargo:rerun-if-changed=../bench/plain.c");
         println!("cargo:rerun-if-changed=../bench/plain.h");
-        // As bench/run does with the library: where the linker puts a function is not to count.
+        // Plain C stands at a multiple of 64; bench/places puts the library at several places.
         let flags =
             ["-std=c11", "-O3", "-falign-functions=64", "-Wall", "-Wextra", "-Werror", "-c"];
         run("gcc", &[&flags[..], &["../bench/plain.c", "-o", &object]].concat());
