@@ -143,10 +143,10 @@ fn find_room(s: &[u8], known: &mut [u32; KNOWN], r: LiveRegion, n: u32) -> Spot
     Spot(p, n)
 }
 
-// What a new object of region r takes, n places to a page: rules' `allocate` for objects of a size with n places (chosen-from, allocate-plain).
+// What a new object of region r takes, n places to a page: rules' `allocate` for objects of a size with n places (chosen-from).
 pub fn allocate(s: &[u8], known: &mut [u32; KNOWN], r: LiveRegion, n: u32) -> Chosen
     requires { ⌜ (length (now s) ≡ stateBytes) × (n ≤ pageBytes) × Used (now known) (now s) ⌝ }
-    ensures { λ c. ⌜ (c ≡ chosen (view (now (s .entry)) .owner) (view (now (s .entry)) .mark) firstPage firstPage pastPage (r .0) n) × Within pastPage n c × Used (now (known .exit)) (now (s .entry)) ⌝ }
+    ensures { λ c. ⌜ (c ≡ chosen (view (now (s .entry)) .owner) (view (now (s .entry)) .mark) firstPage pastPage (r .0) n) × Within pastPage n c × Used (now (known .exit)) (now (s .entry)) ⌝ }
 {
     let x = find_room(s, known, r, n);
     let p = x.0;
