@@ -6,7 +6,8 @@ use Prim.Native.Nat.{ℕ, zero, suc, _<_}
 use native.Mathlib.Decide.{decLt}
 use native.Mathlib.Omega.{arith}
 use lib.Dec.{eqb}
-use lib.ListN.{length, getD, length-append}
+use lib.ListN.{length, getD, length-append, List·getD-append, List·getD-eq-default}
+use lib.Seq.{getD-at}
 use borrow.Author.Tests.{eqb-true, ltb-true, lt-ltb}
 use Rattle.words.specs.Bytes.{Bytes, listOf}
 use Rattle.words.specs.ByteLaws.{length-listOf, getD-listOf}
@@ -21,7 +22,6 @@ use Rattle.rules.specs.Walk.{whole}
 use Rattle.rules.specs.declared.Record.{Record}
 use Rattle.rules.specs.declared.Walk.{Walk}
 use Rattle.typing.specs.Walk.{Fits}
-use Rattle.typing.specs.Lists.{getD-left, getD-last, getD-past}
 use Rattle.positions.specs.Maps.{Narrow, each-of}
 use Rattle.checker.specs.Ranges.{TermCase, of-integer, of-pointer, of-array, of-struct, term-case, integer-plain, array-plain, pointer-region, struct-regions, terms-fit}
 
@@ -88,9 +88,9 @@ trees-use f (suc n) fits i = go (decLt i (length (treesOf f n))) (decLt (length 
   where
     go : Dec (i < length (treesOf f n)) → Dec (length (treesOf f n) < i) → ((i : ℕ) → Uses mostRegions (getD (treesOf f n) i noTree))
         → Uses mostRegions (getD (treesOf f n ++ treeOf (treesOf f n) (recordOf f n) ∷ []) i noTree)
-    go (yes a) b h = rw (getD-left noTree (treesOf f n) (treeOf (treesOf f n) (recordOf f n) ∷ []) i a) (h i)
-    go (no a) (yes b) h = rw (getD-past noTree (treesOf f n ++ treeOf (treesOf f n) (recordOf f n) ∷ []) i (rw length-append (omega arith))) in-int
-    go (no a) (no b) h = rw (getD-last noTree (treesOf f n) (treeOf (treesOf f n) (recordOf f n)) i (omega arith)) (tree-uses (treesOf f n) (recordOf f n) h (fits n (omega arith)))
+    go (yes a) b h = rw (List·getD-append (treesOf f n) (treeOf (treesOf f n) (recordOf f n) ∷ []) noTree i a) (h i)
+    go (no a) (yes b) h = rw (List·getD-eq-default (treesOf f n ++ treeOf (treesOf f n) (recordOf f n) ∷ []) noTree {n = i} (rw length-append (omega arith))) in-int
+    go (no a) (no b) h = rw (getD-at (treesOf f n) (treeOf (treesOf f n) (recordOf f n)) [] noTree i (omega arith)) (tree-uses (treesOf f n) (recordOf f n) h (fits n (omega arith)))
 
 -- no term writes a region variable above 6
 pub narrow-by : (f : Bytes) → ((t : ℕ) → t < moduleOf f .terms → RegionsFit (recordOf f t)) → Narrow f

@@ -7,7 +7,7 @@ use Prim.Native.Nat.{ℕ, zero, suc, _+_, _*_, _/_, _%_, _^_, _<_, _≤_}
 use native.Mathlib.Numerals.{add-one}
 use native.Mathlib.Omega.{arith}
 use lib.Dec.{ltb}
-use lib.ListN.{length, getD}
+use lib.ListN.{length, getD, List·getD-eq-default}
 use Rattle.words.specs.Bytes.{Bytes}
 use Rattle.rules.specs.Limits.{mostEntries, mostFunctions, blockBytes, mostBlocks}
 use Rattle.rules.specs.File.{records, recordOf, entryOf, regionsOf, returnOf, parametersOf, instructionsOf}
@@ -19,7 +19,6 @@ use Rattle.walk.specs.Tables.{startsOf, start-below}
 use Rattle.walk.specs.Code.{registers-far, skip-far}
 use Rattle.typing.specs.Walk.{skip, skip-suc, place-at}
 use Rattle.terms.specs.Extents.{Counted}
-use Rattle.typing.specs.Lists.{getD-past}
 
 -- what refusals 1 to 4 have established of file f: n terms, k structs, c functions, and where the functions start
 pub record Known (f : Bytes) (n k c : ℕ) (heads : List ℕ) : Type 0 where
@@ -136,4 +135,4 @@ module _ (f : Bytes) (h : ℕ) where
 
   pub place-none : (count i : ℕ) → count ≡ instructionsOf (recordOf f h) → count ≤ i → 0 ≡ placeIn f h i
   unfolding placeIn codePlaces
-  place-none count i e l = sym (getD-past 0 (places f (codeAt f h) (instructionsOf (recordOf f h))) i (rw (places-length (codeAt f h) (instructionsOf (recordOf f h))) (omega arith)))
+  place-none count i e l = sym (List·getD-eq-default (places f (codeAt f h) (instructionsOf (recordOf f h))) 0 {n = i} (rw (places-length (codeAt f h) (instructionsOf (recordOf f h))) (omega arith)))

@@ -7,14 +7,14 @@ use native.Mathlib.Nat.{mul-le-mul-left}
 use native.Mathlib.Decide.{ℕ-discrete, decLt}
 use native.Mathlib.Omega.{arith}
 use lib.Dec.{leb}
-use lib.ListN.{length, getD, length-append}
+use lib.ListN.{length, getD, length-append, List·getD-append, List·getD-eq-default}
+use lib.Seq.{getD-at}
 use Rattle.rules.specs.Limits.{sizeLimit}
 use Rattle.words.specs.Decide.{Each, more}
 use Rattle.rules.specs.Types.{RegionKind, variable, Tree, int, ptr, arr, struct}
 use Rattle.rules.specs.Module.{Module}
 use Rattle.rules.specs.Flat.{Layout, none, empty, packed, beside, copiesOf, copies, subLayout, flatWith, fieldsFrom, fieldsWith, layouts, flat, structFlat, size}
 use Rattle.layout.specs.Prims.{size-copiesOf, length-layouts}
-use Rattle.typing.specs.Lists.{getD-left, getD-last, getD-past}
 use Rattle.typing.specs.Types.{Deep, deep-int, deep-ptr, deep-arr, deep-struct, width-small, DeepModule}
 
 copies-some : {k : RegionKind} (n : ℕ) (L : Layout k) → 1 ≤ n → 0 < L .size → 0 < copies n L .size
@@ -61,12 +61,11 @@ module _ (m : Module) (d : DeepModule m) where
   layouts-some (suc n) h N = go (decLt N n) (ℕ-discrete N n) (layouts-some n (omega arith))
     where
       go : Dec (N < n) → Dec (N ≡ n) → Filled (layouts m n) → 0 < getD (layouts m n ++ fieldsWith (layouts m n) (m .fields n) ∷ []) N none .size
-      go (yes l) e ih = rw (getD-left none (layouts m n) (fieldsWith (layouts m n) (m .fields n) ∷ []) N (omega (arith, length-layouts m n))) (ih N)
-      go (no l) (yes e) ih = rw (getD-last none (layouts m n) (fieldsWith (layouts m n) (m .fields n)) N (e ∙ sym (length-layouts m n)))
+      go (yes l) e ih = rw (List·getD-append (layouts m n) (fieldsWith (layouts m n) (m .fields n) ∷ []) none N (omega (arith, length-layouts m n))) (ih N)
+      go (no l) (yes e) ih = rw (getD-at (layouts m n) (fieldsWith (layouts m n) (m .fields n)) [] none N (length-layouts m n ∙ sym e))
           (fields-some (layouts m n) (m .fields n) ih (d .someFields n (omega arith)) (d .fields n))
       go (no l) (no e) ih =
-          rw (getD-past none (layouts m n ++ fieldsWith (layouts m n) (m .fields n) ∷ []) N
-          (omega (arith, length-append (layouts m n) (fieldsWith (layouts m n) (m .fields n) ∷ []), length-layouts m n))) (omega arith)
+          rw (List·getD-eq-default (layouts m n ++ fieldsWith (layouts m n) (m .fields n) ∷ []) none {n = N} (omega (arith, length-append (layouts m n) (fieldsWith (layouts m n) (m .fields n) ∷ []), length-layouts m n))) (omega arith)
 
   -- a deep type has a byte, and so has a struct
   pub some-size : {T : Tree variable} → Deep m T → 0 < size m T

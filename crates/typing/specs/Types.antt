@@ -8,7 +8,8 @@ use Prim.Native.Nat.{ℕ, zero, suc, _+_, _<_, _≤_}
 use native.Mathlib.Decide.{ℕ-discrete, decLt}
 use native.Mathlib.Omega.{arith}
 use lib.Dec.{eqb, leb}
-use lib.ListN.{length, getD, length-append}
+use lib.ListN.{length, getD, length-append, List·getD-append, List·getD-eq-default}
+use lib.Seq.{getD-at}
 use borrow.Author.Tests.{eqb-true, leb-true}
 use Rattle.words.specs.Bytes.{Bytes, listFrom}
 use Rattle.rules.specs.Limits.{sizeLimit}
@@ -24,7 +25,6 @@ use Rattle.rules.specs.WellTyped.{TermOk}
 use Rattle.rules.specs.Verdict.{verdictOf, IsAccepted}
 use Rattle.rules.specs.declared.Record.{Record}
 use Rattle.typing.specs.Tests.{left, right}
-use Rattle.typing.specs.Lists.{getD-left, getD-last, getD-past}
 use Rattle.typing.specs.Walk.{Fits, TermRecord, good}
 use Rattle.typing.specs.Accepted.{framed, records-fit, accepted}
 
@@ -109,18 +109,17 @@ module _ (m : Module) where
       go a b ih = at a b
         where
           lower : (i : ℕ) → Deep m (getD (treesOf f n) i noTree)
-          lower = ih (λ i l. subst (TermOk m) (getD-left noTree (treesOf f n) (treeOf (treesOf f n) (recordOf f n) ∷ []) i (omega (arith, trees-length f n))) (ok i (omega arith)))
+          lower = ih (λ i l. subst (TermOk m) (List·getD-append (treesOf f n) (treeOf (treesOf f n) (recordOf f n) ∷ []) noTree i (omega (arith, trees-length f n))) (ok i (omega arith)))
 
           last : Deep m (treeOf (treesOf f n) (recordOf f n))
           last = deep-tree (treesOf f n) (recordOf f n) lower (rec n (omega arith))
-              (subst (TermOk m) (getD-last noTree (treesOf f n) (treeOf (treesOf f n) (recordOf f n)) n (sym (trees-length f n))) (ok n (omega arith)))
+              (subst (TermOk m) (getD-at (treesOf f n) (treeOf (treesOf f n) (recordOf f n)) [] noTree n (trees-length f n)) (ok n (omega arith)))
 
           at : Dec (t < n) → Dec (t ≡ n) → Deep m (getD (treesOf f n ++ treeOf (treesOf f n) (recordOf f n) ∷ []) t noTree)
-          at (yes h) d = rw (getD-left noTree (treesOf f n) (treeOf (treesOf f n) (recordOf f n) ∷ []) t (omega (arith, trees-length f n))) (lower t)
-          at (no h) (yes e) = rw (getD-last noTree (treesOf f n) (treeOf (treesOf f n) (recordOf f n)) t (e ∙ sym (trees-length f n))) last
+          at (yes h) d = rw (List·getD-append (treesOf f n) (treeOf (treesOf f n) (recordOf f n) ∷ []) noTree t (omega (arith, trees-length f n))) (lower t)
+          at (no h) (yes e) = rw (getD-at (treesOf f n) (treeOf (treesOf f n) (recordOf f n)) [] noTree t (trees-length f n ∙ sym e)) last
           at (no h) (no e) =
-              rw (getD-past noTree (treesOf f n ++ treeOf (treesOf f n) (recordOf f n) ∷ []) t
-              (omega (arith, length-append (treesOf f n) (treeOf (treesOf f n) (recordOf f n) ∷ []), trees-length f n))) deep-none
+              rw (List·getD-eq-default (treesOf f n ++ treeOf (treesOf f n) (recordOf f n) ∷ []) noTree {n = t} (omega (arith, length-append (treesOf f n) (treeOf (treesOf f n) (recordOf f n) ∷ []), trees-length f n))) deep-none
 
 -- ---- every tree that an accepted file's records name
 

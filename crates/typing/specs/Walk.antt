@@ -8,7 +8,8 @@ use native.Mathlib.Nat.{not-suc-le-zero}
 use native.Mathlib.Decide.{ℕ-discrete}
 use native.Mathlib.Omega.{arith}
 use lib.Dec.{ltb, leb, eqb}
-use lib.ListN.{length, getD, length-append}
+use lib.ListN.{length, getD, length-append, List·getD-append}
+use lib.Seq.{getD-at}
 use borrow.Author.Tests.{ltb-true, leb-true, eqb-true, lt-ltb, le-ltb, leb-false}
 use Rattle.words.specs.Bytes.{Bytes}
 use Rattle.rules.specs.Limits.{mostTerms, mostStructs, mostFunctions, mostRegions, mostRegionParams, mostEntries, mostRegisters, mostInstructions, sizeLimit}
@@ -21,7 +22,6 @@ use Rattle.rules.specs.declared.Walk.{Walk}
 use Rattle.rules.specs.declared.Phase.{Phase}
 use Rattle.rules.specs.declared.Phase.the-variants.{Terms, Names, Fields, Functions, Regions, Registers, Code, Arguments, Filler, Broken}
 use Rattle.typing.specs.Tests.{left, right}
-use Rattle.typing.specs.Lists.{getD-left, getD-last}
 
 -- ---- places of instructions
 
@@ -405,19 +405,19 @@ good-next f t s r g n = go (next (s .walk) (recordOf f r) r) (n .tables) (n .pla
           someFields = λ N h. rw et (g .someFields N (omega arith));
           count = length-append (s .starts) (r ∷ []) ∙ omega (arith, g .count);
           heads = λ i h. head-at i h (ℕ-discrete i (s .walk .functions));
-          last = λ i h. getD-last 0 (s .starts) r i (omega (arith, g .count)) ∙ sym d;
+          last = λ i h. getD-at (s .starts) r [] 0 i (omega (arith, g .count)) ∙ sym d;
           behind = λ i h. behind-at i h (ℕ-discrete (suc i) (s .walk .functions));
         })
       where
         old-at : (i : ℕ) → i < s .walk .functions → getD (s .starts ++ r ∷ []) i 0 ≡ getD (s .starts) i 0
-        old-at i h = getD-left 0 (s .starts) (r ∷ []) i (omega (arith, g .count))
+        old-at i h = List·getD-append (s .starts) (r ∷ []) 0 i (omega (arith, g .count))
 
         head-at : (i : ℕ) → i < v .functions → Dec (i ≡ s .walk .functions) → headRanges (recordOf f (getD (s .starts ++ r ∷ []) i 0)) ≡ true
-        head-at i h (yes q) = rw (getD-last 0 (s .starts) r i (q ∙ sym (g .count))) ok
+        head-at i h (yes q) = rw (getD-at (s .starts) r [] 0 i (g .count ∙ sym q)) ok
         head-at i h (no q) = rw (old-at i (omega arith)) (g .heads i (omega arith))
 
         behind-at : (i : ℕ) → suc i < v .functions → Dec (suc i ≡ s .walk .functions) → endOf f (getD (s .starts ++ r ∷ []) i 0) ≤ getD (s .starts ++ r ∷ []) (suc i) 0
-        behind-at i h (yes q) = rw (getD-last 0 (s .starts) r (suc i) (q ∙ sym (g .count)), old-at i (omega arith), g .last i q) (before (omega arith))
+        behind-at i h (yes q) = rw (getD-at (s .starts) r [] 0 (suc i) (g .count ∙ sym q), old-at i (omega arith), g .last i q) (before (omega arith))
         behind-at i h (no q) = rw (old-at i (omega arith), old-at (suc i) (omega arith)) (g .behind i (omega arith))
 
 -- refusal 4 finds nothing

@@ -9,8 +9,8 @@ use native.Mathlib.Numerals.{add-one}
 use native.Mathlib.Decide.{decLt}
 use native.Mathlib.Omega.{arith}
 use lib.Dec.{ltb, leb, eqb}
-use lib.ListN.{length, getD, set, replicate, length-append, length-set, length-replicate, getD-replicate}
-use lib.Seq.{ext-getD, getD-set-same, getD-set-other}
+use lib.ListN.{length, getD, set, replicate, length-append, length-set, length-replicate, getD-replicate, List·getD-append, List·getD-eq-default}
+use lib.Seq.{ext-getD, getD-set-same, getD-set-other, getD-at}
 use borrow.Author.Tests.{lt-ltb, le-ltb, ltb-true, ltb-false, leb-true}
 use Rattle.words.specs.Bytes.{Bytes, AllBytes, listOf}
 use Rattle.words.specs.ByteLaws.{length-listOf, getD-listOf}
@@ -28,7 +28,6 @@ use Rattle.rules.specs.declared.Phase.the-variants.{Filler}
 use Rattle.walk.specs.declared.tables.Tables.{Tables}
 use Rattle.walk.specs.Scan.{callees, Room, Counts, counts-start, counts-room, counts-next, grown-next, scan-more, inFiller, in-filler, scan-filler}
 use Rattle.walk.specs.Record.{byte-of}
-use Rattle.typing.specs.Lists.{getD-left, getD-last, getD-past}
 
 -- the first 256 starts; 0 where there is no such function
 unfoldable pub entries : List ℕ → List ℕ
@@ -68,15 +67,15 @@ entries-more starts r room =
     at : (g : ℕ) → g < callees → Dec (g < length starts) → Dec (length starts < g)
         → getD (set (entries starts) (length starts) r) g 0 ≡ getD (starts ++ r ∷ []) g 0
     at g l (yes a) b =
-        getD-set-other (entries starts) (length starts) g r 0 (λ e. omega arith) ∙ entry-at starts g l ∙ sym (getD-left 0 starts (r ∷ []) g a)
+        getD-set-other (entries starts) (length starts) g r 0 (λ e. omega arith) ∙ entry-at starts g l ∙ sym (List·getD-append starts (r ∷ []) 0 g a)
     at g l (no a) (yes b) =
         getD-set-other (entries starts) (length starts) g r 0 (λ e. omega arith)
         ∙ entry-at starts g l
-        ∙ getD-past 0 starts g (omega arith)
-        ∙ sym (getD-past 0 (starts ++ r ∷ []) g (rw length-append (omega arith)))
+        ∙ List·getD-eq-default starts 0 {n = g} (omega arith)
+        ∙ sym (List·getD-eq-default (starts ++ r ∷ []) 0 {n = g} (rw length-append (omega arith)))
     at g l (no a) (no b) =
         let e : g ≡ length starts = omega arith in
-        rw e (getD-set-same (entries starts) (length starts) r 0 (rw length-entries room) ∙ sym (getD-last 0 starts r (length starts) refl))
+        rw e (getD-set-same (entries starts) (length starts) r 0 (rw length-entries room) ∙ sym (getD-at starts r [] 0 (length starts) refl))
 
 -- past the entries nothing is stored
 pub entries-full : (starts : List ℕ) (r : ℕ) → callees ≤ length starts → entries starts ≡ entries (starts ++ r ∷ [])
@@ -84,7 +83,7 @@ entries-full starts r full =
     ext-getD 0 (entries starts) (entries (starts ++ r ∷ [])) (length-entries starts ∙ sym (length-entries (starts ++ r ∷ [])))
     (λ g h.
     let l : g < callees = rw length-entries at h in
-    entry-at starts g l ∙ sym (getD-left 0 starts (r ∷ []) g (omega arith)) ∙ sym (entry-at (starts ++ r ∷ []) g l))
+    entry-at starts g l ∙ sym (List·getD-append starts (r ∷ []) 0 g (omega arith)) ∙ sym (entry-at (starts ++ r ∷ []) g l))
 
 -- ---- as many starts as functions
 
