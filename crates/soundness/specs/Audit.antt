@@ -100,7 +100,7 @@ reads-named : (m : Module) (form s o : Bytes) → SafeStep m (stepOf m form s o)
 reads-named m form s o h (assign a x) e i r = r
 reads-named m form s o h (fetch b a x w) e i r =
     let t = h .loads b a x w e in
-    record { target = t .target; within = t .within; type = t .type; inside = t .bytes i (r .0) (r .1) }
+    record { target = t .target; within = t .within; type = t .names .register .1; inside = t .bytes i (r .0) (r .1) }
 reads-named m form s o h (save b x w y) e i r = r
 reads-named m form s o h (takePlace p j a x) e i r = r
 reads-named m form s o h (grantPage p q a) e i r = r

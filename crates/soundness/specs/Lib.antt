@@ -18,6 +18,7 @@ pub mod Bridge
 pub mod Opening
 -- runs, then lists of calls
 pub mod Sound
+pub mod Stray
 pub mod Demand3
 -- corollaries
 pub mod ForCode

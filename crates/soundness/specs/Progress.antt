@@ -202,12 +202,8 @@ module _ (m : Module) (ok : ModuleOk m) (form : Bytes) (bytes : AllBytes form) (
       record {
         target = T;
         within = r;
-        register = p .0;
-        type = p .1;
+        names = record { register = p; scope = i; alive = map-live m ok (v .fn) (v .pc) (v .map) (suc k) (g .frames) k (r .number) low i; run = h };
         address = refl;
-        scope = i;
-        alive = map-live m ok (v .fn) (v .pc) (v .map) (suc k) (g .frames) k (r .number) low i;
-        run = h;
         object = touched-object m (heapTyping m v (suc k)) (v .map k) T (v .map k (r .number)) (v .reg k a) h;
         bytes = touched-bytes m (heapTyping m v (suc k)) (v .map k) T (v .map k (r .number)) (v .reg k a) h c;
       }

@@ -49,8 +49,8 @@ touched-owned m v k b x w i t l h z =
     let r = t .bytes i l h in
     let inside : r .distance + _ ≤ size m (close (v .map k) (t .target)) = flat-inside m (close (v .map k) (t .target)) (r .has) in
     let o = t .object i l (omega (arith, r .high, inside, size-close (v .map k) m (t .target))) in
-    let same : i / pageBytes ≡ x / pageBytes = omega (arith, o .low, o .high, o .whole) in
-    let own : v .owner (i / pageBytes) ≡ suc (v .map k (t .within .number)) = ap (v .owner) same ∙ t .run .own in
+    let same : i / pageBytes ≡ v .reg k b / pageBytes = omega (arith, o .low, o .high, o .whole, t .address) in
+    let own : v .owner (i / pageBytes) ≡ suc (v .map k (t .within .number)) = ap (v .owner) same ∙ t .names .run .own in
     omega arith
 
 reads-owned : (m : Module) (form s o : Bytes) → SafeStep m (stepOf m form s o) → (e : Effect) → effectOf m form (view s) ≡ e → (i : ℕ) → Reads e i → view s .owner (i / pageBytes) ≢ 0
