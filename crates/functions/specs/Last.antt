@@ -3,13 +3,14 @@
 use mathlib.Core.Path.{_≡_, refl, sym, ap, _∙_}
 use mathlib.Core.Bool.{Bool, false, cond, _||_}
 use Prim.Native.Nat.{ℕ, _+_, _-_, _<_, _≤_}
+use native.Mathlib.Decide.{ℕ-discrete}
 use native.Mathlib.Omega.{arith}
 use lib.Dec.{leb, eqb}
 use lib.ListN.{getD}
 use borrow.Author.Tests.{eq-eqb, ne-eqb, lt-leb, le-leb}
 use Rattle.words.specs.Bytes.{Bytes}
 use Rattle.words.specs.Choose.{cond-split, split-eq, split-lt, neither-of, left-of, right-of}
-use Rattle.words.specs.Decide.{does}
+use Rattle.words.specs.Decide.{does, decEither}
 use Rattle.rules.specs.File.{recordOf, parametersOf, Group, groupOf, kindCall, firstMemory, firstControl}
 use Rattle.rules.specs.Module.{Instruction}
 use Rattle.rules.specs.Decode.{callOf, arithmeticOf, memoryOf, controlOf, byGroup, instructionOf, codeOf, moduleOf, startOf}
@@ -31,11 +32,11 @@ module _ (x : Record) where
   not-last k i j p q = cond-split (λ (i : Instruction). isLast i ≡ false) (eqb (x .kind) k) i j (λ e. p) (λ e. q)
 
   arithmetic-not : isLast (arithmeticOf x) ≡ false
-  unfolding arithmeticOf decLast
+  unfolding arithmeticOf decLast decEither ℕ-discrete
   arithmetic-not = not-last 16 _ _ refl (not-last 17 _ _ refl (not-last 18 _ _ refl (not-last 19 _ _ refl (not-last 20 _ _ refl (not-last 21 _ _ refl refl)))))
 
   memory-not : isLast (memoryOf x) ≡ false
-  unfolding memoryOf decLast
+  unfolding memoryOf decLast decEither ℕ-discrete
   memory-not = not-last 23 _ _ refl (not-last 24 _ _ refl (not-last 25 _ _ refl (not-last 26 _ _ refl (not-last 27 _ _ refl refl))))
 
   low-kind : x .kind < 29 → ends (x .kind) ≡ false
@@ -45,7 +46,7 @@ module _ (x : Record) where
   other-kind k e l n = neither-of (ne-eqb (x .kind) 31 (λ q. n (sym e ∙ q))) (lt-leb 34 (x .kind) (omega arith))
 
   control-ends : (c : Instruction) → isLast c ≡ false → 29 ≤ x .kind → isLast (controlOf x c) ≡ ends (x .kind)
-  unfolding controlOf decLast
+  unfolding controlOf decLast decEither ℕ-discrete
   control-ends c h low =
       split-eq P (x .kind) 29 _ _ (λ e. sym (other-kind 29 e (omega arith) (λ q. omega arith)))
       (λ a. split-eq P (x .kind) 30 _ _ (λ e. sym (other-kind 30 e (omega arith) (λ q. omega arith)))
@@ -58,7 +59,7 @@ module _ (x : Record) where
       P i = isLast i ≡ ends (x .kind)
 
   pub instruction-ends : (y : Record) (p q : ℕ) → isLast (instructionOf x (callOf x y p q)) ≡ ends (x .kind)
-  unfolding instructionOf groupOf byGroup callOf decLast
+  unfolding instructionOf groupOf byGroup callOf decLast decEither ℕ-discrete
   instruction-ends y p q =
       split-lt (λ (g : Group). isLast (byGroup g x (callOf x y p q)) ≡ ends (x .kind)) (x .kind) firstMemory _ _
       (λ a. arithmetic-not ∙ sym (low-kind (omega arith)))

@@ -2,14 +2,15 @@
 -- well-typed module is one in which all of them hold. Assumes nothing.
 use mathlib.Core.Path.{_≡_}
 use mathlib.Core.Bool.{cond}
+use mathlib.Core.Logic.{_⊎_}
 use Prim.Native.Nat.{ℕ, _-_, _<_, _≤_}
 use native.Mathlib.Decide.{ℕ-discrete, decLe}
 use lib.Dec.{ltb}
 use lib.ListN.{length}
 use Rattle.rules.specs.Limits.{mostTerms, mostStructs, mostFunctions, mostRegions, mostRegionParams, mostEntries, mostRegisters, mostInstructions, sizeLimit}
-use Rattle.words.specs.Decide.{mapDec, decBoth, decAll, Each, decEach}
+use Rattle.words.specs.Decide.{mapDec, decBoth, decEither, decAll, Each, decEach}
 use Rattle.rules.specs.Types.{variable, Tree, int, ptr, arr, struct, decTree, Uses, decUses, Primitive, decPrimitive}
-use Rattle.rules.specs.Module.{Module, Function, regions, Instruction, constant, copy, operate, zeroExtend, signExtend, address, check, field, index, load, store, new, free, input, output, jump, branch, call, return}
+use Rattle.rules.specs.Module.{Module, Function, regions, Instruction, kindOf}
 use Rattle.rules.specs.Flat.{size, structFlat}
 use Rattle.rules.specs.Typing.{Typed}
 
@@ -78,30 +79,11 @@ decEntry f = mapDec (λ h. record { noRegions = h .0; parameters = h .1 .0; retu
 
 -- ---- "8 the last is neither 31 nor 34"
 
-pub data Last : Instruction → Type 0 where
-  last-jump : {d : ℕ} → Last (jump d)
-  last-return : {a : ℕ} → Last (return a)
+abbrev pub Last : Instruction → Type 0
+Last i = (kindOf i ≡ 31) ⊎ (kindOf i ≡ 34)
 
 unfoldable pub decLast : (i : Instruction) → Dec (Last i)
-decLast (constant a d) = no (λ w. elim w [ ])
-decLast (copy a b) = no (λ w. elim w [ ])
-decLast (operate o a b c) = no (λ w. elim w [ ])
-decLast (zeroExtend a b) = no (λ w. elim w [ ])
-decLast (signExtend a b) = no (λ w. elim w [ ])
-decLast (address a b) = no (λ w. elim w [ ])
-decLast (check a b) = no (λ w. elim w [ ])
-decLast (field a b d) = no (λ w. elim w [ ])
-decLast (index a b c) = no (λ w. elim w [ ])
-decLast (load a b) = no (λ w. elim w [ ])
-decLast (store a b) = no (λ w. elim w [ ])
-decLast (new a) = no (λ w. elim w [ ])
-decLast (free a) = no (λ w. elim w [ ])
-decLast (input a c) = no (λ w. elim w [ ])
-decLast (output b) = no (λ w. elim w [ ])
-decLast (jump d) = yes last-jump
-decLast (branch a d) = no (λ w. elim w [ ])
-decLast (call a g rs xs) = no (λ w. elim w [ ])
-decLast (return a) = yes last-return
+decLast i = decEither (ℕ-discrete (kindOf i) 31) (ℕ-discrete (kindOf i) 34)
 
 -- ---- the ranges, which refusal 4 has made sure of: those of record 7, and "At most 128 terms, 32 names and 1 to 32 functions"
 

@@ -2,6 +2,7 @@
 use mathlib.Core.Path.{_≡_, sym, subst}
 use mathlib.Core.Bool.{Bool, true, false, cond}
 use mathlib.Core.List.{List}
+use mathlib.Core.Logic.{_⊎_, inl, inr}
 use Prim.Native.Nat.{ℕ, suc, _-_, _<_, _≤_}
 use native.Mathlib.Decide.{ℕ-discrete}
 use native.Mathlib.Omega.{arith}
@@ -15,7 +16,7 @@ use Rattle.rules.specs.Module.{Module, Function, regions, Instruction, constant
 use Rattle.rules.specs.Flat.{size, structFlat}
 use Rattle.rules.specs.Decode.{moduleOf}
 use Rattle.rules.specs.Typing.{Typed}
-use Rattle.rules.specs.WellTyped.{scopeOf, FunctionOk, EntryOk, Ranges, Last, last-jump, last-return, WellTyped}
+use Rattle.rules.specs.WellTyped.{scopeOf, FunctionOk, EntryOk, Ranges, Last, WellTyped}
 use Rattle.rules.specs.Verdict.{verdictOf, IsAccepted}
 use Rattle.typing.specs.Accepted.{accepted}
 use Rattle.typing.specs.Types.{Deep, deep-ok, deep-target, primitive-width, width-small, DeepFunction, DeepModule, deep}
@@ -92,9 +93,31 @@ goes-before (branch a d) i n h = h
 goes-before (call a g rs xs) i n h = h
 goes-before (return a) i n h = tt
 
+-- no other kind is last
+other-kind : {A : Type 0} (k : ℕ) → (k ≡ 31) ⊎ (k ≡ 34) → (k ≡ 31 → ⊥) → (k ≡ 34 → ⊥) → A
+other-kind k (inl e) a b = absurd (a e)
+other-kind k (inr e) a b = absurd (b e)
+
 goes-last : (c : Instruction) (i n : ℕ) → Last c → GoesOn c i n
-goes-last (jump d) i n last-jump = tt
-goes-last (return a) i n last-return = tt
+goes-last (constant a d) i n h = other-kind 16 h (λ e. omega arith) (λ e. omega arith)
+goes-last (copy a b) i n h = other-kind 17 h (λ e. omega arith) (λ e. omega arith)
+goes-last (operate o a b c) i n h = other-kind 18 h (λ e. omega arith) (λ e. omega arith)
+goes-last (zeroExtend a b) i n h = other-kind 19 h (λ e. omega arith) (λ e. omega arith)
+goes-last (signExtend a b) i n h = other-kind 20 h (λ e. omega arith) (λ e. omega arith)
+goes-last (address a b) i n h = other-kind 21 h (λ e. omega arith) (λ e. omega arith)
+goes-last (check a b) i n h = other-kind 22 h (λ e. omega arith) (λ e. omega arith)
+goes-last (field a b d) i n h = other-kind 23 h (λ e. omega arith) (λ e. omega arith)
+goes-last (index a b c) i n h = other-kind 24 h (λ e. omega arith) (λ e. omega arith)
+goes-last (load a b) i n h = other-kind 25 h (λ e. omega arith) (λ e. omega arith)
+goes-last (store a b) i n h = other-kind 26 h (λ e. omega arith) (λ e. omega arith)
+goes-last (new a) i n h = other-kind 27 h (λ e. omega arith) (λ e. omega arith)
+goes-last (free a) i n h = other-kind 28 h (λ e. omega arith) (λ e. omega arith)
+goes-last (input a c) i n h = other-kind 29 h (λ e. omega arith) (λ e. omega arith)
+goes-last (output b) i n h = other-kind 30 h (λ e. omega arith) (λ e. omega arith)
+goes-last (jump d) i n h = tt
+goes-last (branch a d) i n h = other-kind 32 h (λ e. omega arith) (λ e. omega arith)
+goes-last (call a g rs xs) i n h = other-kind 33 h (λ e. omega arith) (λ e. omega arith)
+goes-last (return a) i n h = tt
 
 -- ---- the facts
 
