@@ -23,7 +23,7 @@ use Rattle.state.specs.Update.{upd, upd-same, upd-other}
 use Rattle.state.specs.Apply.{nothing}
 use Rattle.state.specs.Puts.{after}
 use Rattle.state.specs.NewFrame.{putRegion, frame-region, frame-register, frameOf-agree}
-use Rattle.frames.specs.Regions.{numbers-past}
+use Rattle.regions.specs.Regions.{numbers-past}
 use Rattle.frames.specs.Entered.{putRegisters, putRegions, registers-more}
 
 -- ---- the lowest numbers where none is live

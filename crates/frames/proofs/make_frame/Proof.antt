@@ -4,7 +4,7 @@ use native.Mathlib.Omega.{arith}
 use native.Mathlib.Numerals.{add-one}
 use Rattle.rules.specs.State.{view}
 use Rattle.state.specs.Reads.{map-lt}
-use Rattle.frames.specs.Regions.{noRegions}
+use Rattle.regions.specs.Regions.{noRegions}
 use Rattle.frames.specs.Entered.{made-locals, made-plain}
 use borrow.Author.Needs.{needs}
 use Rattle.frames.proofs.make_frame.Statement.{statement}

@@ -3,7 +3,7 @@ use mathlib.Core.Path.{_≡_, refl}
 use Prim.Native.Nat.{_-_, _≤_}
 use native.Mathlib.Omega.{arith}
 use lib.ListN.{length}
-use Rattle.frames.specs.Regions.{filled, numberIn, filled-none, filled-more}
+use Rattle.regions.specs.Regions.{filled, numberIn, filled-none, filled-more}
 use Rattle.frames.specs.Entered.{putRegions, regions-none, locals-more}
 use borrow.Author.Needs.{needs}
 use Rattle.frames.proofs.put_locals.Statement.{statement}

@@ -1,0 +1,2 @@
+-- The pages that a return closes, and their laws.
+pub mod Left
