@@ -1,7 +1,8 @@
 -- `arithmetic::compute` meets its contract: in each arm the number of the operation is known, and the definition computes.
-use mathlib.Core.Path.{refl, ap}
+use mathlib.Core.Path.{refl, ap, _∙_}
+use mathlib.Core.Bool.{Bool}
 use native.Mathlib.Omega.{arith}
-use Rattle.rules.specs.Arithmetic.{value, operationOf, operated}
+use Rattle.rules.specs.Arithmetic.{value, flag, operationOf, operated}
 use Rattle.arithmetic.specs.Laws.{operation-none, not-next}
 use borrow.Author.Needs.{needs}
 use Rattle.arithmetic.proofs.compute.Statement.{statement}
@@ -69,35 +70,35 @@ returns-6 c = rw (c .match .keys6) refl
 
 returns-7 : tie.Need-returns-7
 unfolding operationOf operated
-returns-7 c = rw (c .before .match .keys7) (cc)
+returns-7 c = rw (c .before .match .keys7) (c .shift-left .ensures)
 
 returns-8 : tie.Need-returns-8
 unfolding operationOf operated
-returns-8 c = rw (c .before .match .keys8) (cc)
+returns-8 c = rw (c .before .match .keys8) (c .shift-right .ensures)
 
 returns-9 : tie.Need-returns-9
 unfolding operationOf operated
-returns-9 c = rw (c .before .match .keys9) (cc)
+returns-9 c = rw (c .before .match .keys9) (c .quotient .ensures)
 
 returns-10 : tie.Need-returns-10
 unfolding operationOf operated
-returns-10 c = rw (c .before .match .keys10) (cc)
+returns-10 c = rw (c .before .match .keys10) (c .remainder .ensures)
 
 returns-11 : tie.Need-returns-11
 unfolding operationOf operated
-returns-11 c = rw (c .before .match .keys11) (cc)
+returns-11 c = rw (c .before .match .keys11) (c .nearest .ensures)
 
 returns-12 : tie.Need-returns-12
 unfolding operationOf operated
-returns-12 c = rw (c .before .match .keys12) (cc)
+returns-12 c = rw (c .before .match .keys12) (c .flag-of .ensures)
 
 returns-13 : tie.Need-returns-13
 unfolding operationOf operated
-returns-13 c = rw (c .before .match .keys13) (cc)
+returns-13 c = rw (c .before .match .keys13) (c .flag-of2 .ensures)
 
 returns-14 : tie.Need-returns-14
 unfolding operationOf operated
-returns-14 c = rw (c .before .before .match .keys14) (cc)
+returns-14 c = rw (c .before .before .match .keys14) (c .flag-of3 .ensures ∙ ap (λ (b : Bool). value (flag b)) (c .before .less .ensures))
 
 returns-15 : tie.Need-returns-15
 unfolding operated

@@ -1,9 +1,9 @@
 -- `arithmetic::extend` meets its contract, by the definition.
-use mathlib.Core.Path.{_∙_}
-use Prim.Native.Nat.{_*_, _^_, _<_, _≤_}
+use mathlib.Core.Path.{ap, ap₂, _∙_}
+use Prim.Native.Nat.{ℕ, _+_, _-_, _*_, _^_, _<_, _≤_}
 use native.Mathlib.Omega.{arith}
 use borrow.Author.Tests.{lt-ltb, le-ltb}
-use Rattle.rules.specs.Arithmetic.{signExtended}
+use Rattle.rules.specs.Arithmetic.{cut, signExtended}
 use borrow.Author.Needs.{needs}
 use Rattle.arithmetic.proofs.extend.Statement.{statement}
 use Rattle.arithmetic.proofs.extend.Tie as tie
@@ -37,11 +37,11 @@ cut-by-requires-2 c κs = search needs
 
 returns : tie.Need-returns
 unfolding signExtended
-returns c = let h : 2 * c .before .before .before .before .before .args .x < 256 ^ c .before .before .before .before .before .args .w = omega arith in λ u l e. rw (lt-ltb _ _ h) (c .cut-by .ensures u l e ∙ cc)
+returns c = let h : 2 * c .before .before .before .before .before .args .x < 256 ^ c .before .before .before .before .before .args .w = omega arith in λ u l e. rw (lt-ltb _ _ h) (c .cut-by .ensures u l e ∙ ap (cut u) (c .before .wide2 .ensures .0))
 
 returns-2 : tie.Need-returns-2
 unfolding signExtended
-returns-2 c = let h : 256 ^ c .before .before .before .before .before .args .w ≤ 2 * c .before .before .before .before .before .args .x = omega arith in λ u l e. rw (le-ltb _ _ h) (c .cut-by2 .ensures u l e ∙ cc)
+returns-2 c = let h : 256 ^ c .before .before .before .before .before .args .w ≤ 2 * c .before .before .before .before .before .args .x = omega arith in λ u l e. rw (le-ltb _ _ h) (c .cut-by2 .ensures u l e ∙ ap₂ (λ (n : ℕ) (m : ℕ). cut u (n + (256 ^ 4 - m))) (c .before .wide3 .ensures .0) (c .before .before .before .before .range .ensures .0))
 
 pub extend-spec : {M : Type 1} → statement M
 extend-spec =

@@ -2,8 +2,8 @@
 use Prim.Native.Nat.{_<_, _≤_}
 use native.Mathlib.Omega.{arith}
 use borrow.Author.Tests.{lt-ltb, le-ltb}
-use Rattle.rules.specs.Arithmetic.{nearestOf, signedBy, nearestBy}
-use Rattle.arithmetic.specs.Laws.{nearest-le, magnitude-pos}
+use Rattle.rules.specs.Arithmetic.{signedBy, nearestBy}
+use Rattle.arithmetic.specs.Laws.{nearest-le, nearest-means, magnitude-pos}
 use borrow.Author.Needs.{needs}
 use Rattle.arithmetic.proofs.nearest.Statement.{statement}
 use Rattle.arithmetic.proofs.nearest.Tie as tie
@@ -40,20 +40,20 @@ positive-requires-2 : tie.Need-positive-requires-2
 positive-requires-2 c κs = search needs
 
 returns-2 : tie.Need-returns-2
-unfolding nearestBy signedBy nearestOf
-returns-2 c = let h : 0 < c .before .before .before .before .before .before .before .args .y = omega arith in rw (lt-ltb _ _ h, lt-ltb _ _ (c .before .before .if2 .taken), lt-ltb _ _ (c .before .if3 .taken)) (cc)
+unfolding signedBy
+returns-2 c = nearest-means _ _ (c .before .before .before .before .before .before .if1 .left) (c .before .before .before .before .before .magnitude-of .ensures .0) (c .before .before .before .before .magnitude-of2 .ensures .0) (c .before .before .before .dividend .ensures) (lt-ltb _ _ (c .before .before .if2 .taken)) (lt-ltb _ _ (c .before .if3 .taken)) (c .positive .ensures)
 
 returns-3 : tie.Need-returns-3
-unfolding nearestBy signedBy nearestOf
-returns-3 c = let h : 0 < c .before .before .before .before .before .before .before .args .y = omega arith in rw (lt-ltb _ _ h, lt-ltb _ _ (c .before .before .if2 .taken), le-ltb _ _ (c .before .if3 .left)) (cc)
+unfolding signedBy
+returns-3 c = nearest-means _ _ (c .before .before .before .before .before .before .if1 .left) (c .before .before .before .before .before .magnitude-of .ensures .0) (c .before .before .before .before .magnitude-of2 .ensures .0) (c .before .before .before .dividend .ensures) (lt-ltb _ _ (c .before .before .if2 .taken)) (le-ltb _ _ (c .before .if3 .left)) (c .negated .ensures)
 
 returns-4 : tie.Need-returns-4
-unfolding nearestBy signedBy nearestOf
-returns-4 c = let h : 0 < c .before .before .before .before .before .before .before .args .y = omega arith in rw (lt-ltb _ _ h, le-ltb _ _ (c .before .before .if2 .left), lt-ltb _ _ (c .before .if4 .taken)) (cc)
+unfolding signedBy
+returns-4 c = nearest-means _ _ (c .before .before .before .before .before .before .if1 .left) (c .before .before .before .before .before .magnitude-of .ensures .0) (c .before .before .before .before .magnitude-of2 .ensures .0) (c .before .before .before .dividend .ensures) (le-ltb _ _ (c .before .before .if2 .left)) (lt-ltb _ _ (c .before .if4 .taken)) (c .negated2 .ensures)
 
 returns-5 : tie.Need-returns-5
-unfolding nearestBy signedBy nearestOf
-returns-5 c = let h : 0 < c .before .before .before .before .before .before .before .args .y = omega arith in rw (lt-ltb _ _ h, le-ltb _ _ (c .before .before .if2 .left), le-ltb _ _ (c .before .if4 .left)) (cc)
+unfolding signedBy
+returns-5 c = nearest-means _ _ (c .before .before .before .before .before .before .if1 .left) (c .before .before .before .before .before .magnitude-of .ensures .0) (c .before .before .before .before .magnitude-of2 .ensures .0) (c .before .before .before .dividend .ensures) (le-ltb _ _ (c .before .before .if2 .left)) (le-ltb _ _ (c .before .if4 .left)) (c .positive2 .ensures)
 
 pub nearest-spec : {M : Type 1} → statement M
 nearest-spec =

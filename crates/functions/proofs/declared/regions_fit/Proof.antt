@@ -39,11 +39,11 @@ loop-less : tie.Need-loop-less Inv-loop μ-loop
 loop-less c = search needs
 
 loop-again : tie.Need-loop-again Inv-loop μ-loop
-loop-again c = (omega arith, below-more _ _ (c .before .before .before .loop .inv .1) (cc))
+loop-again c = (omega arith, below-more _ _ (c .before .before .before .loop .inv .1) (sym (c .before .region-fits .ensures) ∙ c .if1 .taken))
 
 returns : tie.Need-returns Inv-loop μ-loop
 unfolding regionsFit
-returns c = let a = c .before .before .before .before .before .before .before .args in scan-broken (regionFits (functionAt (now (a .f)) (a .h))) ((c .before .before .before .before .regions-of .ensures ∙ ap (λ (x : Record). regionsOf x) (c .before .before .before .before .before .record-at .ensures)) ∙ sym (regions-at (now (a .f)) (a .h))) (c .before .before .before .loop .i) (c .before .before .loop-test .taken) (cc)
+returns c = let a = c .before .before .before .before .before .before .before .args in scan-broken (regionFits (functionAt (now (a .f)) (a .h))) ((c .before .before .before .before .regions-of .ensures ∙ ap (λ (x : Record). regionsOf x) (c .before .before .before .before .before .record-at .ensures)) ∙ sym (regions-at (now (a .f)) (a .h))) (c .before .before .before .loop .i) (c .before .before .loop-test .taken) (sym (c .before .region-fits .ensures) ∙ c .if1 .left)
 
 returns-2 : tie.Need-returns-2 Inv-loop μ-loop
 unfolding regionsFit

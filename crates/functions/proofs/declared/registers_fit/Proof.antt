@@ -38,11 +38,11 @@ loop-less : tie.Need-loop-less Inv-loop μ-loop
 loop-less c = search needs
 
 loop-again : tie.Need-loop-again Inv-loop μ-loop
-loop-again c = (omega arith, below-more _ _ (c .before .before .before .loop .inv .1) (cc))
+loop-again c = (omega arith, below-more _ _ (c .before .before .before .loop .inv .1) (sym (c .before .register-fits .ensures) ∙ c .if1 .taken))
 
 returns : tie.Need-returns Inv-loop μ-loop
 unfolding registersFit
-returns c = let a = c .before .before .before .before .before .before .before .args in scan-broken (registerFits (functionAt (now (a .f)) (a .h))) (ap (λ (x : Record). x .c) (c .before .before .before .before .before .record-at .ensures) ∙ sym (registers-at (now (a .f)) (a .h))) (c .before .before .before .loop .i) (c .before .before .loop-test .taken) (cc)
+returns c = let a = c .before .before .before .before .before .before .before .args in scan-broken (registerFits (functionAt (now (a .f)) (a .h))) (ap (λ (x : Record). x .c) (c .before .before .before .before .before .record-at .ensures) ∙ sym (registers-at (now (a .f)) (a .h))) (c .before .before .before .loop .i) (c .before .before .loop-test .taken) (sym (c .before .register-fits .ensures) ∙ c .if1 .left)
 
 returns-2 : tie.Need-returns-2 Inv-loop μ-loop
 unfolding registersFit

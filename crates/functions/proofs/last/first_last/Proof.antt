@@ -1,5 +1,5 @@
 -- `functions::last::first_last` meets its contract: the functions passed end well.
-use mathlib.Core.Path.{_≡_, sym}
+use mathlib.Core.Path.{_≡_, sym, _∙_}
 use Prim.Native.Nat.{ℕ, _<_, _≤_, _-_}
 use mathlib.Core.Bool.{true}
 use denote.Ref.{now}
@@ -35,10 +35,10 @@ loop-less : tie.Need-loop-less Inv-loop μ-loop
 loop-less c = search needs
 
 loop-again : tie.Need-loop-again Inv-loop μ-loop
-loop-again c = (omega arith, below-more _ _ (c .before .before .before .before .loop .inv .1) (cc))
+loop-again c = (omega arith, below-more _ _ (c .before .before .before .before .loop .inv .1) (sym (c .before .last-fits .ensures) ∙ c .if1 .taken))
 
 returns : tie.Need-returns Inv-loop μ-loop
-returns c = let a = c .before .before .before .before .before .before .args in first-found (a .c) (lastTest (moduleOf (now (a .f)))) (c .before .before .before .before .loop .g) (c .before .before .before .before .loop .inv .1) (c .before .before .before .loop-test .taken) (cc)
+returns c = let a = c .before .before .before .before .before .before .args in first-found (a .c) (lastTest (moduleOf (now (a .f)))) (c .before .before .before .before .loop .g) (c .before .before .before .before .loop .inv .1) (c .before .before .before .loop-test .taken) (sym (c .before .last-fits .ensures) ∙ c .if1 .left)
 
 returns-2 : tie.Need-returns-2 Inv-loop μ-loop
 returns-2 c = let a = c .before .before .before .args in sym (first-none (a .c) (lastTest (moduleOf (now (a .f)))) (λ j l. c .before .loop .inv .1 j (omega arith)))
