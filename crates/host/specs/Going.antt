@@ -24,7 +24,7 @@ use Rattle.run.specs.Turns.{Came}
 use Rattle.run.specs.Outcomes.{outcomeMeant}
 use Rattle.run.specs.declared.Outcome.{Outcome}
 use Rattle.run.specs.declared.Outcome.the-variants as outcomes
-use Rattle.host.specs.Verdicts.{on-refused, on-accepted}
+use Rattle.guarantees.specs.Verdicts.{on-refused, on-accepted}
 use Rattle.host.specs.declared.go.Went.{Went}
 use Rattle.host.specs.declared.go.Went.the-variants as answers
 

@@ -1,7 +1,4 @@
 -- The answers of the code as those of rules' Host, and the laws that its functions go by.
-pub mod Verdicts
-pub mod First
-pub mod Opening
 pub mod Ready
 pub mod Testing
 pub mod Reading

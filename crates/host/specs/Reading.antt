@@ -21,7 +21,7 @@ use Rattle.rules.specs.declared.Verdict.the-variants as verdicts
 use Rattle.soundness.specs.ForCode.{object-inside}
 use Rattle.objects.specs.Homes.{IsPart, objectAt}
 use Rattle.objects.specs.declared.Area.{Area}
-use Rattle.host.specs.Verdicts.{on-refused, on-accepted}
+use Rattle.guarantees.specs.Verdicts.{on-refused, on-accepted}
 use Rattle.host.specs.declared.object.Part.{Part}
 
 abbrev pub partMeant : Part → rules.Part

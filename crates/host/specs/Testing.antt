@@ -15,7 +15,7 @@ use Rattle.rules.specs.Verdict.{verdictOf, IsAccepted}
 use Rattle.rules.specs.Host as rules
 use Rattle.rules.specs.declared.Verdict.{Verdict}
 use Rattle.rules.specs.declared.Verdict.the-variants as verdicts
-use Rattle.host.specs.Verdicts.{on-refused, on-accepted}
+use Rattle.guarantees.specs.Verdicts.{on-refused, on-accepted}
 use Rattle.host.specs.declared.test.Tested.{Tested}
 use Rattle.host.specs.declared.test.Tested.the-variants as answers
 

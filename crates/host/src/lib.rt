@@ -1,7 +1,6 @@
-// What a host calls: opening, going on, the state test and the reader of states, for all inputs. Each contract gives the answer and the
+// What a host calls: going on, the state test and the reader of states, for all inputs. Each contract gives the answer and the
 // bytes left by a definition of rules' Host.
 pub mod go;
 pub mod object;
-pub mod open;
 mod tables;
 pub mod test;

@@ -1,3 +1,2 @@
--- Kinds 17 to 21, and kind 22.
+-- Kinds 17 to 21.
 pub mod Numbers
-pub mod Checks

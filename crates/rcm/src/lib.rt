@@ -5,15 +5,15 @@ ghost use Rattle.rules.specs.Limits.{mostFunctions, mostInstructions};
 ghost use Rattle.rules.specs.Verdict.{verdictOf};
 ghost use Rattle.rules.specs.Host.{checkNumbers, goOf, goNumbers, leftOpened, leftOutput, leftState, objectOf, openOf, openNumbers, partNumbers, testOf, testNumbers};
 ghost use Rattle.words.specs.Bytes.{Bytes};
-ghost use Rattle.host.specs.Opening.{openedMeant};
+ghost use Rattle.opening.specs.Opening.{openedMeant};
 ghost use Rattle.host.specs.Going.{wentMeant};
 ghost use Rattle.host.specs.Testing.{testedMeant};
 ghost use Rattle.host.specs.Reading.{partMeant};
 ghost use Rattle.rcm.specs.Answer.{SmallCounts};
 use host::go::Went;
 use host::object::Part;
-use host::open::Opened;
 use host::test::Tested;
+use opening::Opened;
 use rules::Verdict;
 
 // Functions and instructions in one number.
@@ -104,7 +104,7 @@ pub extern "C" fn rcm_check(file: &[u8], answer: &mut [u64; 4])
 pub extern "C" fn rcm_open(file: &[u8], arguments: &[u8], state: &mut [u8], answer: &mut [u64; 4])
     ensures { λ _. do let w = openOf (now (file .entry)) (now (arguments .entry)) (now (state .entry)) in ⌜ (now (answer .exit) ≡ openNumbers w) × (now (state .exit) ≡ leftOpened w (now (state .entry))) ⌝ }
 {
-    let r = host::open::open(file, arguments, state);
+    let r = opening::open(file, arguments, state);
     *answer = open_numbers(r);
 }
 

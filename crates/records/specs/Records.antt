@@ -1,5 +1,4 @@
--- How the loop over the records shows its result: a record fails, the file ends too soon, or neither; and the test of a record by the
--- walk's phase. Assumes nothing.
+-- How the loop over the records shows its result: a record fails, the file ends too soon, or neither. Assumes nothing.
 use mathlib.Core.Path.{_≡_, sym, ap, _∙_}
 use mathlib.Core.Bool.{Bool, true, false}
 use Prim.Native.Nat.{ℕ, _+_, _<_}
@@ -9,12 +8,12 @@ use Rattle.words.specs.Bytes.{Bytes}
 use Rattle.words.specs.First.{first}
 use Rattle.words.specs.FirstLaws.{first-is}
 use Rattle.rules.specs.File.{records, recordOf}
-use Rattle.rules.specs.Walk.{Scan, scan, whole}
+use Rattle.rules.specs.Walk.{scan, whole}
 use Rattle.rules.specs.Records.{isFiller, fitsIn, fits, endFits, recordTest}
 use Rattle.rules.specs.declared.Record.{Record}
 use Rattle.rules.specs.declared.Walk.{Walk}
-use Rattle.rules.specs.declared.Phase.{Phase}
 use Rattle.rules.specs.declared.Phase.the-variants.{Filler}
+use Rattle.fits.specs.Phases.{fits-in}
 use Rattle.walk.specs.Scan.{inFiller, in-filler, next-filler, walk-more}
 use Rattle.typing.specs.Walk.{test-at, test-end}
 
@@ -45,11 +44,6 @@ module _ (f : Bytes) {n : ℕ} (hn : n ≡ records f) {r : ℕ} {w : Walk} (hw :
       none-fails e =
           ap (λ (k : ℕ). k + 1) hn
           ∙ sym (first-is (records f + 1) (recordTest f) (records f + 1) (omega arith) (below-more _ (records f) passed (at-end ∙ e)) (λ k. absurd (omega arith)))
-
--- by the walk's phase
-pub fits-in : (f : Bytes) (t : Scan) (w : Walk) (x : Record) {p : Phase} → w .phase ≡ p → fits f t w x ≡ fitsIn p f t w x
-unfolding fits
-fits-in f t w x e = ap (λ (q : Phase). fitsIn q f t w x) e
 
 -- ---- the filler
 

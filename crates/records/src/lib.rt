@@ -12,8 +12,6 @@ ghost use Rattle.records.specs.Records.{Filled};
 use framing::Outcome;
 use walk::tables::Tables;
 
-pub mod fits;
-
 // The first place at which refusal 4 is due, where the walk is in the filler before record `from`, and no record before it is at fault.
 fn filler_fault(f: &[u8], n: usize, from: usize) -> usize
     requires { ⌜ n ≡ records (now f) ⌝ ∗ ⌜ Filled (now f) from ⌝ ∗ ⌜ from ≤ n ⌝ }

@@ -11,10 +11,10 @@ use Rattle.rules.specs.Verdict.{verdictOf}
 use Rattle.rules.specs.Host as rules
 use Rattle.rules.specs.declared.Verdict.{Verdict}
 use Rattle.rules.specs.declared.Verdict.the-variants as verdicts
-use Rattle.host.specs.Opening.{openedMeant, OpenedBy}
+use Rattle.opening.specs.Opening.{openedMeant, OpenedBy}
 use Rattle.host.specs.Going.{wentMeant, WentBy}
-use Rattle.host.specs.declared.open.Opened.{Opened}
-use Rattle.host.specs.declared.open.Opened.the-variants as openings
+use Rattle.opening.specs.declared.Opened.{Opened}
+use Rattle.opening.specs.declared.Opened.the-variants as openings
 use Rattle.host.specs.declared.go.Went.{Went}
 use Rattle.host.specs.declared.go.Went.the-variants as answers
 use Rattle.lines.specs.Lines.{verdictLine, refusedLine, wentLine, programBudget, secondLine, printed}

@@ -11,13 +11,13 @@ ghost use Rattle.lines.specs.Writing.{Puts, mostLine};
 ghost use Rattle.report.specs.Report.{answerLine};
 use host::go::Went;
 use host::go::go;
-use host::open::Opened;
-use host::open::open;
 use lines::ended_line;
 use lines::refused_line;
 use lines::running_line;
 use lines::stopped_line;
 use lines::verdict_line;
+use opening::Opened;
+use opening::open;
 use rules::Verdict;
 use state::Machine;
 
