@@ -25,7 +25,7 @@ use Rattle.soundness.specs.Bridge.{passes-test}
 use Rattle.soundness.specs.Sound.{status-going, ready}
 use Rattle.soundness.specs.ForCode as sound
 use Rattle.prepared.specs.HotRun.{Settles, Steady, AllSteady}
-use Rattle.run.specs.Turns.{Started}
+use Rattle.turns.specs.Turns.{Started}
 
 -- a safe effect of a good state settles
 settles : (m : Module) (ok : ModuleOk m) (v : View) (k : ℕ) → Good m v (suc k) → (e : Effect) → Safe m v k e → Settles v k e

@@ -20,7 +20,7 @@ use Rattle.rules.specs.Host as rules
 use Rattle.rules.specs.declared.Verdict.{Verdict}
 use Rattle.rules.specs.declared.Verdict.the-variants as verdicts
 use Rattle.soundness.specs.ForCode.{go-went}
-use Rattle.run.specs.Turns.{Came}
+use Rattle.turns.specs.Turns.{Came}
 use Rattle.run.specs.Outcomes.{outcomeMeant}
 use Rattle.run.specs.declared.Outcome.{Outcome}
 use Rattle.run.specs.declared.Outcome.the-variants as outcomes

@@ -1,4 +1,2 @@
--- What a step and a run leave, and the laws that the loop needs.
-pub mod Stepped
-pub mod Turns
+-- What came of a run.
 pub mod Outcomes

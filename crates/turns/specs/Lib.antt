@@ -1,0 +1,3 @@
+-- What a step and the steps of a run leave, and the laws that the loop needs.
+pub mod Stepped
+pub mod Turns
