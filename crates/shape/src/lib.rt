@@ -8,7 +8,7 @@ pub mod header;
 pub mod pages;
 pub mod spare;
 
-use stack::frames::frames_ok;
+use chain::frames::frames_ok;
 use walk::limits::CALLEES;
 
 // All of them.

@@ -10,15 +10,15 @@ use lib.Dec.{eqb, ltb}
 use lib.ListN.{length}
 use Rattle.words.specs.Bytes.{Bytes}
 use Rattle.rules.specs.Limits.{liveRegions}
-use Rattle.rules.specs.File.{instructionsOf, regionsOf}
+use Rattle.rules.specs.File.{records, instructionsOf, regionsOf}
 use Rattle.rules.specs.Walk.{whole}
 use Rattle.rules.specs.Records.{headOf}
 use Rattle.rules.specs.Module.{Function, regions}
-use Rattle.rules.specs.Decode.{moduleOf, functionOf}
+use Rattle.rules.specs.Decode.{moduleOf, functionOf, startOf}
 use Rattle.rules.specs.State.{frameFunction, frameMap}
 use Rattle.rules.specs.Heap.{Local, Live}
 use Rattle.rules.specs.declared.Record.{Record}
-use Rattle.walk.specs.Tables.{startsOf}
+use Rattle.walk.specs.Tables.{startsOf, starts-below}
 use Rattle.stack.specs.Tells.{Tells, tells-map, tells-lt, tells-eq, tells-and, tells-not}
 
 -- what the code is handed of a file: its starts and its number of functions; no place of the file is 2 ^ 32 or more
@@ -112,3 +112,8 @@ local-ok-by {f} {s} {k} {a} {i} {r} e t u =
     let d : r + 1 ≡ suc (frameMap s k (a + i)) = add-one r ∙ ap suc e in
     tells-map (λ p. record { numbered = p .0; fresh = p .1 .0; earlier = p .1 .1 }) (λ w. (w .numbered, (w .fresh, w .earlier)))
     (tells-and (tells-map (λ l. rw (← e) l) (λ l. rw e l) (tells-lt r liveRegions)) (tells-and (rw d at t) (rw d at u)))
+
+-- no start of a short file is far
+pub start-few : (f : Bytes) (g : ℕ) → length f < 2 ^ 32 → startOf f g < 2 ^ 30
+unfolding startOf whole records
+start-few f g h = let a = starts-below f (records f) g in omega arith

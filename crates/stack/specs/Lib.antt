@@ -1,5 +1,3 @@
--- What the tests of a state's frames say, and the laws that their code uses.
+-- What a test of a state's bytes tells, and the laws of frames and live regions that its code uses.
 pub mod Tells
 pub mod Facts
-pub mod Chain
-pub mod Frames

@@ -1,7 +1,7 @@
 -- `objects::term_of` meets its contract: the entry of record 8. Assumes nothing.
 use native.Mathlib.Omega.{arith}
 use mathlib.Core.Path.{_∙_}
-use Rattle.stack.specs.Chain.{start-few}
+use Rattle.stack.specs.Facts.{start-few}
 use Rattle.objects.specs.Homes.{term-is}
 use borrow.Author.Needs.{needs}
 use Rattle.objects.proofs.term_of.Statement.{statement}

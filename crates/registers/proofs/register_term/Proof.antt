@@ -1,7 +1,7 @@
 -- `registers::register_term` meets its contract: the entry of record 9. Assumes nothing.
 use native.Mathlib.Omega.{arith}
 use mathlib.Core.Path.{_∙_}
-use Rattle.stack.specs.Chain.{start-few}
+use Rattle.stack.specs.Facts.{start-few}
 use Rattle.walk.specs.Code.{registers-far}
 use Rattle.registers.specs.Registers.{term-is}
 use borrow.Author.Needs.{needs}
