@@ -1,3 +1,2 @@
 -- The type of a live region as the code finds it, and what rests on its size alone.
 pub mod Homes
-pub mod Ends

@@ -1,17 +1,13 @@
-// Objects of a state that nobody has tested: which frame's type a live region has, the size of its objects, the object around an
-// address, and the marks past a page's last place. The file's tables are handed over; nothing is asked of the state.
+// Objects of a state that nobody has tested: which frame's type a live region has, the size of its objects, and the object around an
+// address. The file's tables are handed over; nothing is asked of the state.
 ghost use mathlib.Core.Path.{_≡_};
-ghost use Prim.Native.Nat.{ℕ, _+_, _-_, _*_, _/_, _<_, _≤_};
-ghost use Rattle.rules.specs.Limits.{pages, pageBytes};
+ghost use Prim.Native.Nat.{_<_, _≤_};
 ghost use Rattle.rules.specs.Flat.{size};
 ghost use Rattle.rules.specs.Decode.{moduleOf};
 ghost use Rattle.rules.specs.State.{frameMap};
 ghost use Rattle.positions.specs.Table.{Table};
-ghost use Rattle.stack.specs.Tells.{Tells};
 ghost use Rattle.stack.specs.Facts.{Known};
 ghost use Rattle.objects.specs.Homes.{lastOf, lastLocal, frameOf, termAt, regionTree, HomeIs, partAt, IsPart, objectAt};
-ghost use Rattle.objects.specs.Ends.{PlacesIn, EndMark, EndsOk, AllEnds};
-use shape::spare::zero;
 use stack::regions::head;
 use stack::regions::region;
 use state::Machine;
@@ -173,115 +169,4 @@ pub fn object(
     let n = words::wide(state::total::frames(s));
     let size = size_of(f, starts, functions, terms, structs, tab, s, n, owner - 1);
     object_in(p, (a % Machine::PAGE_BYTES) as usize, size)
-}
-
-// ---- marks past the last place
-
-// How many places a page has for objects of this size. (Size 0: all of them, that of no object.)
-pub fn places_in(size: usize) -> usize
-    ensures { λ r. ⌜ PlacesIn size r ⌝ }
-{
-    let all = Machine::PAGE_BYTES as usize;
-    if size == 0 {
-        return all;
-    }
-    all / size
-}
-
-fn end_mark(s: &[u8], p: u32, size: usize, j: u32) -> bool
-    requires { ⌜ (size ≤ 257) × (j < 256) ⌝ }
-    ensures { λ b. ⌜ Tells b (EndMark (now (s .entry)) p size j) ⌝ }
-{
-    let x = state::total::mark(s, p, j);
-    (size * (j as usize + 1) <= Machine::PAGE_BYTES as usize) | (x == 0)
-}
-
-// The places from `many` on that are before `to`.
-fn near_marks(s: &[u8], p: u32, size: usize, many: u32, to: u32) -> bool
-    requires { ⌜ (size ≤ 257) × (to ≤ 256) × (PlacesIn size many) ⌝ }
-    ensures { λ b. ⌜ Tells b ((j : ℕ) → j < to → EndMark (now (s .entry)) p size j) ⌝ }
-{
-    let mut j = many;
-    while j < to {
-        if !end_mark(s, p, size, j) {
-            return false;
-        }
-        j += 1;
-    }
-    true
-}
-
-// Up to the end of their byte the marks are read one by one, from there on byte by byte.
-fn end_marks(s: &[u8], p: u32, size: usize) -> bool
-    requires { ⌜ (size ≤ 257) × (p < pages) ⌝ }
-    ensures { λ b. ⌜ Tells b ((j : ℕ) → j < pageBytes → EndMark (now (s .entry)) p size j) ⌝ }
-{
-    let many = places_in(size);
-    let whole = (many + 7) / 8;
-    let near = near_marks(s, p, size, many as u32, (8 * whole) as u32);
-    let marks = state::places::marks_place(p);
-    let far = zero(s, marks + whole, marks + Machine::MARK_BYTES);
-    near & far
-}
-
-fn page_ends(
-    f: &[u8],
-    starts: &[usize; CALLEES],
-    functions: usize,
-    terms: usize,
-    structs: usize,
-    tab: &[u64],
-    s: &[u8],
-    n: u32,
-    p: u32,
-) -> bool
-    requires { ⌜ Known (now f) (now starts) functions ⌝ ∗ ⌜ Table (now f) terms structs (now tab) ⌝ ∗ ⌜ p < pages ⌝ }
-    ensures { λ b. ⌜ Tells b (EndsOk (now (f .entry)) (now (s .entry)) n p) ⌝ }
-{
-    let owner = words::wide(state::total::owner(s, p));
-    if owner == 0 {
-        return true;
-    }
-    let size = size_of(f, starts, functions, terms, structs, tab, s, n, owner - 1);
-    end_marks(s, p, size)
-}
-
-fn all_ends(
-    f: &[u8],
-    starts: &[usize; CALLEES],
-    functions: usize,
-    terms: usize,
-    structs: usize,
-    tab: &[u64],
-    s: &[u8],
-    n: u32,
-) -> bool
-    requires { ⌜ Known (now f) (now starts) functions ⌝ ∗ ⌜ Table (now f) terms structs (now tab) ⌝ }
-    ensures { λ b. ⌜ Tells b ((p : ℕ) → p < pages → EndsOk (now (f .entry)) (now (s .entry)) n p) ⌝ }
-{
-    let mut p = 0;
-    while p < Machine::PAGES {
-        if !page_ends(f, starts, functions, terms, structs, tab, s, n, p) {
-            return false;
-        }
-        p += 1;
-    }
-    true
-}
-
-// "used marks beyond the last place of an owned page" are zero.
-pub fn ends_ok(
-    f: &[u8],
-    starts: &[usize; CALLEES],
-    functions: usize,
-    terms: usize,
-    structs: usize,
-    tab: &[u64],
-    s: &[u8],
-) -> bool
-    requires { ⌜ Known (now f) (now starts) functions ⌝ ∗ ⌜ Table (now f) terms structs (now tab) ⌝ }
-    ensures { λ b. ⌜ Tells b (AllEnds (now (f .entry)) (now (s .entry))) ⌝ }
-{
-    let n = words::wide(state::total::frames(s));
-    all_ends(f, starts, functions, terms, structs, tab, s, n)
 }

@@ -34,7 +34,7 @@ use Rattle.positions.specs.Distances.{found-nth, layout-under}
 use Rattle.positions.specs.Maps.{each-of, Narrow, mapList, under-close}
 use Rattle.stack.specs.Tells.{Tells, tells-map, tells-yes, tells-not, tells-eq}
 use Rattle.objects.specs.Homes.{regionTree, HomeIs, size-some}
-use Rattle.objects.specs.Ends.{PlacesIn}
+use Rattle.marks.specs.Ends.{PlacesIn}
 use Rattle.objects.specs.declared.Home.{Home}
 use Rattle.registers.specs.Value.{map-short}
 use Rattle.values.specs.Memory.{PrimitiveAt, primitive-same, integer-at}

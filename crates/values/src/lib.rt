@@ -12,7 +12,7 @@ ghost use Rattle.positions.specs.Maps.{Narrow};
 pub mod memory;
 pub mod pages;
 
-use objects::ends_ok;
+use marks::ends_ok;
 use registers::registers_ok;
 use shape::shape_ok;
 use walk::limits::CALLEES;

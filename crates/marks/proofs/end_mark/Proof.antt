@@ -1,10 +1,10 @@
--- `objects::end_mark` meets its contract: the mark that was read. Assumes nothing.
-use Rattle.objects.specs.Ends.{mark-few}
+-- `marks::end_mark` meets its contract: the mark that was read. Assumes nothing.
+use Rattle.marks.specs.Ends.{mark-few}
 use native.Mathlib.Omega.{arith}
-use Rattle.objects.specs.Ends.{mark-by}
+use Rattle.marks.specs.Ends.{mark-by}
 use borrow.Author.Needs.{needs}
-use Rattle.objects.proofs.end_mark.Statement.{statement}
-use Rattle.objects.proofs.end_mark.Tie as tie
+use Rattle.marks.proofs.end_mark.Statement.{statement}
+use Rattle.marks.proofs.end_mark.Tie as tie
 
 mark-requires : tie.Need-mark-requires
 mark-requires c κs = search needs

@@ -1,10 +1,10 @@
--- `objects::page_ends` meets its contract: by whether the page has an owner. Assumes nothing.
+-- `marks::page_ends` meets its contract: by whether the page has an owner. Assumes nothing.
 use mathlib.Core.Path.{_∙_}
 use Rattle.stack.specs.Tells.{tells-yes}
-use Rattle.objects.specs.Ends.{ends-none, ends-some}
+use Rattle.marks.specs.Ends.{ends-none, ends-some}
 use borrow.Author.Needs.{needs}
-use Rattle.objects.proofs.page_ends.Statement.{statement}
-use Rattle.objects.proofs.page_ends.Tie as tie
+use Rattle.marks.proofs.page_ends.Statement.{statement}
+use Rattle.marks.proofs.page_ends.Tie as tie
 
 owner-requires : tie.Need-owner-requires
 owner-requires c κs = search needs

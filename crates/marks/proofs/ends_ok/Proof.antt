@@ -1,9 +1,9 @@
--- `objects::ends_ok` meets its contract: every page. Assumes nothing.
+-- `marks::ends_ok` meets its contract: every page. Assumes nothing.
 use mathlib.Core.Path.{_∙_}
-use Rattle.objects.specs.Ends.{all-by}
+use Rattle.marks.specs.Ends.{all-by}
 use borrow.Author.Needs.{needs}
-use Rattle.objects.proofs.ends_ok.Statement.{statement}
-use Rattle.objects.proofs.ends_ok.Tie as tie
+use Rattle.marks.proofs.ends_ok.Statement.{statement}
+use Rattle.marks.proofs.ends_ok.Tie as tie
 
 frames-requires : tie.Need-frames-requires
 frames-requires c κs = search needs

@@ -1,11 +1,11 @@
--- `objects::near_marks` meets its contract: every place before j is right. Assumes nothing.
+-- `marks::near_marks` meets its contract: every place before j is right. Assumes nothing.
 use borrow.Author.Needs.{needs}
 use native.Mathlib.Omega.{arith}
 use Prim.Native.Nat.{ℕ, _-_, _<_}
 use Rattle.stack.specs.Tells.{scan-more, scan-broken, scan-ended}
-use Rattle.objects.specs.Ends.{EndMark, mark-inside}
-use Rattle.objects.proofs.near_marks.Statement.{statement}
-use Rattle.objects.proofs.near_marks.Tie as tie
+use Rattle.marks.specs.Ends.{EndMark, mark-inside}
+use Rattle.marks.proofs.near_marks.Statement.{statement}
+use Rattle.marks.proofs.near_marks.Tie as tie
 
 abbrev Inv-loop : tie.InvT-loop
 Inv-loop s p size many to j₀ j = (z : ℕ) → z < j → EndMark s p size z

@@ -1,8 +1,8 @@
--- `objects::places_in` meets its contract: by whether objects have a size. Assumes nothing.
-use Rattle.objects.specs.Ends.{places-all, places-some}
+-- `marks::places_in` meets its contract: by whether objects have a size. Assumes nothing.
+use Rattle.marks.specs.Ends.{places-all, places-some}
 use borrow.Author.Needs.{needs}
-use Rattle.objects.proofs.places_in.Statement.{statement}
-use Rattle.objects.proofs.places_in.Tie as tie
+use Rattle.marks.proofs.places_in.Statement.{statement}
+use Rattle.marks.proofs.places_in.Tie as tie
 
 cast-all : tie.Need-cast-all
 cast-all c = search needs

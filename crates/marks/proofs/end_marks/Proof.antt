@@ -1,9 +1,9 @@
--- `objects::end_marks` meets its contract: the marks up to the end of a byte, and the bytes behind them. Assumes nothing.
+-- `marks::end_marks` meets its contract: the marks up to the end of a byte, and the bytes behind them. Assumes nothing.
 use native.Mathlib.Omega.{arith}
-use Rattle.objects.specs.Ends.{marks-by}
+use Rattle.marks.specs.Ends.{marks-by}
 use borrow.Author.Needs.{needs}
-use Rattle.objects.proofs.end_marks.Statement.{statement}
-use Rattle.objects.proofs.end_marks.Tie as tie
+use Rattle.marks.proofs.end_marks.Statement.{statement}
+use Rattle.marks.proofs.end_marks.Tie as tie
 
 places-in-requires : tie.Need-places-in-requires
 places-in-requires c κs = search needs

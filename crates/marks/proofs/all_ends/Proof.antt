@@ -1,11 +1,11 @@
--- `objects::all_ends` meets its contract: every page before p is right. Assumes nothing.
+-- `marks::all_ends` meets its contract: every page before p is right. Assumes nothing.
 use borrow.Author.Needs.{needs}
 use native.Mathlib.Omega.{arith}
 use Prim.Native.Nat.{ℕ, _-_, _<_, _≤_}
 use Rattle.stack.specs.Tells.{scan-none, scan-more, scan-broken, scan-ended}
-use Rattle.objects.specs.Ends.{EndsOk}
-use Rattle.objects.proofs.all_ends.Statement.{statement}
-use Rattle.objects.proofs.all_ends.Tie as tie
+use Rattle.marks.specs.Ends.{EndsOk}
+use Rattle.marks.proofs.all_ends.Statement.{statement}
+use Rattle.marks.proofs.all_ends.Tie as tie
 
 abbrev Inv-loop : tie.InvT-loop
 Inv-loop f starts functions terms structs tab s n p₀ p = (p ≤ 64) × ((z : ℕ) → z < p → EndsOk f s n z)
