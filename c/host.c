@@ -1,5 +1,6 @@
-/* A host in C over the proved library: opens a module, goes on with budgets 0, 1 and many, tests and inspects the state, and
- * shows that a refused call changes no byte. Built with -Wall -Wextra -Werror and the address sanitizer, and run by the gate:
+/* The C interface tried from C: opens a module, goes on with budgets 0, 1 and many, tests and inspects the state, and
+ * shows that a refused call changes no byte. (A host to start from is coordinator.c.) Built with -Wall -Wextra -Werror and the address
+ * sanitizer, and run by the gate:
  *
  *     host MODULE FORM
  *
