@@ -2,7 +2,7 @@
 //! instructions" and "From the input").
 
 use crate::file::Refusal;
-use crate::module::{decode, Function, Instruction, Module, Term, FIRST_CODE_KIND};
+use crate::module::{decode, Function, Instruction, Module, Term, FIRST_CODE_KIND, KIND_CALL};
 use crate::types::{regions_used, sizes, Type, TypeId, Types, Variable, IDENTITY, MAX_SIZE};
 
 const I8: u8 = 1;
@@ -115,7 +115,7 @@ const RULES: [&str; 19] = [
     "an i8 goes to the output",
     "a jump has no rule",
     "a branch looks at an integer",
-    "the types of a call's regions, arguments and result equal the callee's, with the regions put in",
+    "a call's result goes into a register of the callee's result type, with the regions put in",
     "a returned register has the function's return type",
 ];
 
@@ -126,8 +126,7 @@ fn typing_fault(module: &Module) -> Option<(usize, &'static str)> {
         let mut typing = Typing::new(module, &mut types, function);
         let fault = function.code.iter().find(|instruction| typing.rule(instruction).is_none());
         if let Some(instruction) = fault {
-            let rule = RULES[usize::from(instruction.kind - FIRST_CODE_KIND)];
-            return Some((instruction.place, rule));
+            return Some((instruction.place, typing.asked(instruction)));
         }
     }
     None
@@ -227,7 +226,7 @@ impl<'t, 'm> Typing<'t, 'm> {
             30 => holds(self.integer(b) == Some(I8)),
             31 => Some(()),
             32 => self.integer(a).map(|_| ()),
-            33 => self.call_rule(instruction),
+            KIND_CALL => self.call_rule(instruction),
             _ => holds(self.register(a) == self.return_type),
         }
     }
@@ -243,18 +242,46 @@ impl<'t, 'm> Typing<'t, 'm> {
         })
     }
 
-    fn call_rule(&mut self, call: &Instruction) -> Option<()> {
-        let module = self.module;
-        let callee = &module.functions[usize::from(call.b)];
-        let given = call.d.to_le_bytes().map(Variable);
+    /// The rule that the instruction breaks, in words; of a call the part of it that is broken first.
+    fn asked(&mut self, instruction: &Instruction) -> &'static str {
+        match instruction.kind {
+            KIND_CALL if self.regions_fit(instruction).is_none() => {
+                "each region given to a call holds the type that the callee's region holds, with the regions put in"
+            }
+            KIND_CALL if self.arguments_fit(instruction).is_none() => {
+                "each argument of a call has the type of the callee's parameter, with the regions put in"
+            }
+            kind => RULES[usize::from(kind - FIRST_CODE_KIND)],
+        }
+    }
+
+    /// The function that is called, and the regions given to it, of which the first so many count.
+    fn callee(&self, call: &Instruction) -> (&'m Function, [Variable; 4]) {
+        (&self.module.functions[usize::from(call.b)], call.d.to_le_bytes().map(Variable))
+    }
+
+    fn regions_fit(&mut self, call: &Instruction) -> Option<()> {
+        let (callee, given) = self.callee(call);
         let given = &given[..callee.region_parameters];
         for (&region, &written) in given.iter().zip(&callee.region_types) {
             holds(self.region_type(region) == self.types.term(written, given))?;
         }
+        Some(())
+    }
+
+    fn arguments_fit(&mut self, call: &Instruction) -> Option<()> {
+        let (callee, given) = self.callee(call);
         let written = &callee.register_types[..callee.parameters];
         for (&argument, &written) in call.arguments.iter().zip(written) {
-            holds(self.register(argument) == self.types.term(written, given))?;
+            holds(self.register(argument) == self.types.term(written, &given))?;
         }
-        holds(self.register(call.a) == self.types.term(callee.return_term, given))
+        Some(())
+    }
+
+    fn call_rule(&mut self, call: &Instruction) -> Option<()> {
+        self.regions_fit(call)?;
+        self.arguments_fit(call)?;
+        let (callee, given) = self.callee(call);
+        holds(self.register(call.a) == self.types.term(callee.return_term, &given))
     }
 }

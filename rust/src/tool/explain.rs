@@ -6,7 +6,7 @@ use crate::checker;
 use crate::file::{block_check, Record, BLOCK_BYTES, CHECK_AT};
 use crate::host::Answer;
 use crate::module::{decode, Function, Instruction, Module, Term, KIND_CALL};
-use crate::state::State;
+use crate::state::{State, STATE_BYTES};
 use crate::text::{file_records, Listing};
 
 /// What a refusal's number means.
@@ -42,6 +42,11 @@ pub fn stop_title(number: u64) -> &'static str {
         39 => "a full output",
         _ => "no number of document 01",
     }
+}
+
+/// Refusal 20 of a saved state.
+pub fn state_length(state: &[u8]) -> String {
+    format!("refused 20 0: it has {} bytes, a state has {STATE_BYTES}", state.len())
 }
 
 /// What a record's kind is called.
@@ -163,26 +168,44 @@ fn struct_text(module: &Module, number: usize) -> String {
     )
 }
 
+/// Terms of a function with the names of what has them.
+fn typed(module: &Module, function: &Function, prefix: char, terms: &[u8]) -> String {
+    let listing = Listing::new(module, true);
+    let scope = function.region_types.len();
+    let texts = terms.iter().enumerate();
+    let texts = texts.map(|(i, &term)| format!("{prefix}{i}: {}", listing.type_text(term, scope)));
+    texts.collect::<Vec<_>>().join(", ")
+}
+
+fn result_text(module: &Module, function: &Function) -> String {
+    Listing::new(module, true).type_text(function.return_term, function.region_types.len())
+}
+
 /// A function's regions, registers and result.
 fn signature(module: &Module, number: usize) -> String {
-    let listing = Listing::new(module, true);
     let function = &module.functions[number];
-    let scope = function.region_types.len();
-    let typed = |prefix: char, terms: &[u8]| {
-        let texts = terms.iter().enumerate();
-        let texts =
-            texts.map(|(i, &term)| format!("{prefix}{i}: {}", listing.type_text(term, scope)));
-        texts.collect::<Vec<_>>().join(", ")
-    };
     let mut text = format!("function f{number}");
-    if scope > 0 {
+    if !function.region_types.is_empty() {
         let parameters = function.region_parameters;
-        let regions = typed('R', &function.region_types);
+        let regions = typed(module, function, 'R', &function.region_types);
         text += &format!(", regions {regions} ({parameters} of them parameters)");
     }
-    let registers = typed('r', &function.register_types);
+    let registers = typed(module, function, 'r', &function.register_types);
     text += &format!(", registers {registers} ({} of them parameters)", function.parameters);
-    text + &format!(", result {}", listing.type_text(function.return_term, scope))
+    text + &format!(", result {}", result_text(module, function))
+}
+
+/// What a function asks of its callers, in its own regions.
+fn head(module: &Module, number: usize) -> String {
+    let function = &module.functions[number];
+    let regions = &function.region_types[..function.region_parameters];
+    let parameters = &function.register_types[..function.parameters];
+    let regions = match typed(module, function, 'R', regions) {
+        none if none.is_empty() => none,
+        some => format!("[{some}]"),
+    };
+    let parameters = typed(module, function, 'r', parameters);
+    format!("f{number} is f{number}{regions}({parameters}) -> {}", result_text(module, function))
 }
 
 fn instruction_at(module: &Module, place: usize) -> Option<String> {
@@ -229,11 +252,16 @@ fn operand_types(module: &Module, function: &Function, instruction: &Instruction
         }
     }
     if instruction.kind == KIND_CALL {
-        parts.push(signature(module, usize::from(instruction.b)));
+        let given = instruction.d.to_le_bytes();
+        let callee = usize::from(instruction.b);
+        for region in &given[..module.functions[callee].region_parameters] {
+            let term = function.region_types[usize::from(*region)];
+            parts.push(format!("region R{region} holds {}", listing.type_text(term, scope)));
+        }
+        parts.push(head(module, callee));
     }
     if instruction.kind == 34 {
-        let result = listing.type_text(function.return_term, scope);
-        parts.push(format!("the function's result is {result}"));
+        parts.push(format!("the function's result is {}", result_text(module, function)));
     }
     if parts.is_empty() {
         return String::new();

@@ -30,9 +30,12 @@ impl Going {
         machine.go(&self.file, &self.form, &mut self.state, &mut self.output, budget)
     }
 
-    /// How many bytes the module has written.
+    /// How many bytes the module has written, if the state has its length.
     fn written(&self) -> usize {
-        usize::from(u16::from_le_bytes([self.state[2], self.state[3]])).min(OUTPUT_BYTES)
+        match self.state[..] {
+            [_, _, low, high, ..] => usize::from(u16::from_le_bytes([low, high])).min(OUTPUT_BYTES),
+            _ => 0,
+        }
     }
 }
 
@@ -55,7 +58,7 @@ fn argument_bytes(word: &str) -> Result<Vec<u8>, String> {
 pub fn run(words: &[String], session: &mut Session) -> Outcome {
     let known = ["--budget", "--arguments", "--state", "--output", "--trace"];
     let words = Words::new(words, &known)?;
-    let [module_name, form_name] = words.exactly()?;
+    let [module_name, form_name] = words.exactly(["MODULE", "FORM"])?;
     let budget = words.option("--budget").map_or(Ok(DEFAULT_BUDGET), |w| number("--budget", w))?;
     let trace = words.option("--trace").map_or(Ok(0), |word| number("--trace", word))?;
     let (file, form) = (read(module_name)?, read(form_name)?);
@@ -102,13 +105,12 @@ pub fn run(words: &[String], session: &mut Session) -> Outcome {
 
 /// Takes a saved state and the output so far, which is not in the state.
 fn restore(words: &Words, name: &str, going: &mut Going) -> Result<(), String> {
-    if words.option("--arguments").is_some() {
-        return Err(format!("{name} is a saved state, which has its arguments already"));
-    }
     going.state = read(name)?;
     if going.state.len() != STATE_BYTES {
-        let length = going.state.len();
-        return Err(format!("{name} has {length} bytes, a state has {STATE_BYTES}"));
+        return Ok(()); // which the call refuses
+    }
+    if words.option("--arguments").is_some() {
+        return Err(format!("{name} is a saved state, which has its arguments already"));
     }
     let written = going.written();
     let Some(output) = words.option("--output") else {
@@ -185,6 +187,7 @@ fn refused(going: &Going, name: &str, answer: Answer, session: &mut Session) -> 
             format!("refused 9 0: the form has {form} bytes, at most {OUTPUT_BYTES} are taken")
         }
         9 => format!("{name}: refused 9 0: {}", wanted_arguments(&going.file)),
+        20 => format!("{name}: {}", explain::state_length(&going.state)),
         21 => format!("{name}: refused 21 0: this is no sound state of the module"),
         22 => format!("{name}: refused 22 0: this state has ended or stopped already"),
         _ => format!("refused {number} {place}"),
@@ -196,7 +199,8 @@ fn refused(going: &Going, name: &str, answer: Answer, session: &mut Session) -> 
 fn wanted_arguments(file: &[u8]) -> String {
     match decode(file).map(|module| module.functions[0].parameters) {
         Ok(0) => "function 0 takes no arguments".to_string(),
-        Ok(count) => format!("--arguments wants {}, with commas", counted(count as u64, "number")),
+        Ok(1) => "function 0 takes 1 argument: --arguments N".to_string(),
+        Ok(count) => format!("function 0 takes {count} arguments: --arguments N,N,.."),
         Err(_) => "the arguments do not fit".to_string(),
     }
 }

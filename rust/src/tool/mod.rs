@@ -124,7 +124,9 @@ impl<'w> Words<'w> {
         let mut found = Words { plain: Vec::new(), options: Vec::new() };
         let mut words = words.iter().map(String::as_str);
         while let Some(word) = words.next() {
-            if known.contains(&word) && FLAGS.contains(&word) {
+            if found.option(word).is_some() {
+                return Err(format!("{word} is given twice"));
+            } else if known.contains(&word) && FLAGS.contains(&word) {
                 found.options.push((word, ""));
             } else if known.contains(&word) {
                 let value = words.next().ok_or(format!("{word} wants a value\n{USAGE}"))?;
@@ -142,8 +144,11 @@ impl<'w> Words<'w> {
         self.options.iter().find(|(option, _)| *option == name).map(|(_, value)| *value)
     }
 
-    /// The words that stand alone, which must be so many.
-    fn exactly<const N: usize>(&self) -> Result<[&'w str; N], String> {
-        self.plain.clone().try_into().map_err(|_| USAGE.to_string())
+    /// The words that stand alone: one for each of these.
+    fn exactly<const N: usize>(&self, wanted: [&str; N]) -> Result<[&'w str; N], String> {
+        let (found, names) = (self.plain.len(), wanted.join(" "));
+        let wrong =
+            |_| format!("wanted: {names}; {} given\n{USAGE}", counted(found as u64, "file"));
+        self.plain.clone().try_into().map_err(wrong)
     }
 }

@@ -7,7 +7,7 @@ use super::{counted, explain, print, read, write, Outcome, Session, Words, DONE,
 use crate::compare::Interface;
 use crate::host;
 use crate::module::{decode, Module};
-use crate::state::{State, ENDED, MEMORY_AT, PAGES, PAGE_BYTES, RUNNING, STATE_BYTES};
+use crate::state::{State, ENDED, MEMORY_AT, PAGES, PAGE_BYTES, RUNNING};
 use crate::text::Listing;
 use crate::types::{Live, Type, TypeId, Types};
 
@@ -52,7 +52,7 @@ pub struct View<'m> {
 
 pub fn pages(words: &[String], session: &mut Session) -> Outcome {
     let words = Words::new(words, &["--address", "--svg"])?;
-    let [module_name, state_name] = words.exactly()?;
+    let [module_name, state_name] = words.exactly(["MODULE", "STATE"])?;
     let (file, bytes) = (read(module_name)?, read(state_name)?);
     let address: Option<u32> = match words.option("--address") {
         Some(word) => {
@@ -62,9 +62,8 @@ pub fn pages(words: &[String], session: &mut Session) -> Outcome {
     };
     let answer = session.machine()?.test(&file, &bytes);
     if answer[0] == host::REFUSED {
-        let length = bytes.len();
         let message = match answer[1] {
-            20 => format!("{state_name} has {length} bytes, a state has {STATE_BYTES}"),
+            20 => format!("{state_name}: {}", explain::state_length(&bytes)),
             21 => format!("{state_name}: refused 21 0: this is no sound state of {module_name}"),
             _ => format!("{module_name}: {}", explain::refusal(&file, answer)),
         };

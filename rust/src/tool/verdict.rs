@@ -4,7 +4,7 @@ use super::{counted, explain, print, read, Outcome, Session, Words, DONE, REFUSE
 use crate::host;
 
 pub fn check(words: &[String], session: &mut Session) -> Outcome {
-    let [name] = Words::new(words, &[])?.exactly()?;
+    let [name] = Words::new(words, &[])?.exactly(["MODULE"])?;
     let file = read(name)?;
     let answer = session.machine()?.check(&file);
     if answer[0] == host::REFUSED {
