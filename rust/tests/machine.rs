@@ -3,8 +3,8 @@
 
 mod common;
 
-use common::{integers, main_function, run, Session, I16, I32, I8};
-use reference::builder::{code, file, record, FunctionBuilder, ModuleBuilder};
+use common::{integers, main_function, run, worked_records, Session, I16, I32, I8};
+use reference::builder::{code, file, FunctionBuilder, ModuleBuilder};
 use reference::calls;
 use reference::file::{block_check, Record};
 use reference::host::{self, Answer};
@@ -46,14 +46,7 @@ fn operate(term: u8, operation: u32, b: u32, c: u32) -> Answer {
 
 #[test]
 fn worked_module() {
-    let records = [
-        record(1, 4, 0, 0, 0),
-        Record([7, 0, 0, 1, 0, 0, 2, 0]),
-        record(9, 0, 0, 0, 0),
-        record(16, 0, 0, 0, 42),
-        record(34, 0, 0, 0, 0),
-    ];
-    let file = file(&records);
+    let file = file(&worked_records());
     assert_eq!(block_check(&file), 3474);
     assert_eq!(calls::check(&file), [host::GOOD, 1, 0, 65_536 + 2]);
     assert_eq!(Session::open(file, &[]).go(1_000_000), ended(42, 2));

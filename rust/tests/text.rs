@@ -2,6 +2,9 @@
 //! example and on random modules, accepted, damaged and of wrong lengths, and errors with their
 //! places.
 
+mod common;
+
+use common::worked_records;
 use reference::builder::{code, file, list_record, record};
 use reference::damage::damage;
 use reference::file::{records, Record};
@@ -31,15 +34,8 @@ fn round_trip(file: &[u8]) -> String {
 #[test]
 fn worked_module() {
     let text = "fn main() -> i32 {\n    reg r: i32\n    r = 42\n    return r\n}\n";
-    let records = [
-        record(1, 4, 0, 0, 0),
-        Record([7, 0, 0, 1, 0, 0, 2, 0]),
-        record(9, 0, 0, 0, 0),
-        record(16, 0, 0, 0, 42),
-        record(34, 0, 0, 0, 0),
-    ];
-    assert_eq!(assembled(text), records);
-    let back = round_trip(&file(&records));
+    assert_eq!(assembled(text), worked_records());
+    let back = round_trip(&file(&worked_records()));
     assert_eq!(back, "fn f0() -> i32 {\n    reg r0: i32\n\n    r0 = 42\n    return r0\n}\n");
 }
 

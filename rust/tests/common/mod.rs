@@ -2,7 +2,7 @@
 //! their modules begin with, and the tool `rcm` as its tests run it. Each test file uses a part.
 #![allow(dead_code)]
 
-use reference::builder::{FunctionBuilder, ModuleBuilder};
+use reference::builder::{record, FunctionBuilder, ModuleBuilder};
 use reference::calls;
 use reference::compare::Interface;
 use reference::file::Record;
@@ -14,6 +14,17 @@ use std::path::{Path, PathBuf};
 pub const I32: u8 = 0;
 pub const I8: u8 = 1;
 pub const I16: u8 = 2;
+
+/// The records of document 01's worked module, which returns 42.
+pub fn worked_records() -> [Record; 5] {
+    [
+        record(1, 4, 0, 0, 0),
+        Record([7, 0, 0, 1, 0, 0, 2, 0]),
+        record(9, 0, 0, 0, 0),
+        record(16, 0, 0, 0, 42),
+        record(34, 0, 0, 0, 0),
+    ]
+}
 
 /// Terms 0 i32, 1 i8, 2 i16.
 pub fn integers() -> ModuleBuilder {
