@@ -402,10 +402,12 @@ impl Scope<'_, '_> {
             return Error::at(name.place, format!("expected a pointer: `{}` is none", name.text));
         };
         if sizes(module).terms[usize::from(target)] > MAX_SIZE {
-            return Error::at(
-                name.place,
-                "expected a type with a size; `field` takes a position without one",
+            let message = format!(
+                "expected a target of at most 256 bytes: that of `{}` is larger or has no size; \
+                 `field` takes a position all the same",
+                name.text
             );
+            return Error::at(name.place, message);
         }
         let (mut term, mut position) = (target, 0);
         for part in path {

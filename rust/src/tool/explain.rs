@@ -205,7 +205,7 @@ fn head(module: &Module, number: usize) -> String {
         some => format!("[{some}]"),
     };
     let parameters = typed(module, function, 'r', parameters);
-    format!("f{number} is f{number}{regions}({parameters}) -> {}", result_text(module, function))
+    format!("the callee is f{number}{regions}({parameters}) -> {}", result_text(module, function))
 }
 
 fn instruction_at(module: &Module, place: usize) -> Option<String> {
