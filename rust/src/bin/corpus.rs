@@ -1,5 +1,5 @@
 //! Runs the files of cases in a folder: the one that is named on the command line, else by the
-//! environment variable CORPUS, else `shared/corpus` beside the repository.
+//! environment variable CORPUS, else the repository's tests/corpus.
 
 use reference::corpus::run_folder;
 use std::path::PathBuf;
@@ -7,9 +7,10 @@ use std::process::ExitCode;
 
 fn main() -> ExitCode {
     let argument = std::env::args_os().nth(1);
-    let folder = argument
-        .or_else(|| std::env::var_os("CORPUS"))
-        .map_or_else(|| PathBuf::from("../../shared/corpus"), PathBuf::from);
+    let folder = argument.or_else(|| std::env::var_os("CORPUS")).map_or_else(
+        || PathBuf::from(concat!(env!("CARGO_MANIFEST_DIR"), "/../tests/corpus")),
+        PathBuf::from,
+    );
     let report = match run_folder(&folder) {
         Ok(report) => report,
         Err(error) => {
