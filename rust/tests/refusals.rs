@@ -306,6 +306,12 @@ fn behind_a_break_nothing_is_known() {
     assert_eq!(in_names, (4, 8));
     // Faults before the break come first, by place.
     assert_eq!(broken(&|records| records[13].0[1] = 99), (4, 13));
+    // The file ends inside code, before the function that is called could stand there.
+    let mut code = code::call(0, 1, &[], &[]).to_vec();
+    code.extend(vec![code::constant(0, 0); 200]);
+    let mut records = with_code(&[I32], &code);
+    records.truncate(126);
+    assert_eq!(verdict(&records), (4, 126));
 }
 
 #[test]
