@@ -250,7 +250,7 @@ fn the_program_translates_without_the_library() {
     let text = program(&["dis", "module"]);
     assert!(text.status.success());
     assert!(text.stdout.starts_with(b"fn f0() -> i32 {"));
-    if cfg!(not(any(feature = "librcm", feature = "stand-in"))) {
+    if cfg!(not(feature = "librcm")) {
         let check = program(&["check", "module"]);
         assert_eq!(check.status.code(), Some(i32::from(BAD_INPUT)));
         assert!(String::from_utf8_lossy(&check.stderr).contains("without the proved library"));

@@ -1,6 +1,5 @@
 //! The tool `rcm` over the proved library (feature `librcm`); without it only `asm` and `dis` are
-//! there. The feature `stand-in` is for tests alone: it puts the reference interpreter for the
-//! library.
+//! there.
 
 use reference::compare::Interface;
 use reference::tool::{run, Session};
@@ -12,12 +11,7 @@ fn machine() -> Option<impl Interface> {
     Some(reference::library::Library)
 }
 
-#[cfg(all(feature = "stand-in", not(feature = "librcm")))]
-fn machine() -> Option<impl Interface> {
-    Some(reference::compare::Reference)
-}
-
-#[cfg(not(any(feature = "librcm", feature = "stand-in")))]
+#[cfg(not(feature = "librcm"))]
 fn machine() -> Option<impl Interface> {
     None::<reference::compare::Reference>
 }
