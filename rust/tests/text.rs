@@ -183,6 +183,7 @@ fn errors_say_where_and_what() {
         ("hello", (1, 1), "expected `type`, `struct`, `fn`, `raw` or `file`, found `hello`"),
         ("raw 1 2 3", (1, 5), "expected a record: five numbers"),
         ("type a = 5", (1, 10), "expected a type: i8, i16, i32"),
+        (&format!("type a = {}i8", "*".repeat(100_000)), (1, 138), "a type of at most 128 levels"),
         ("type new = i8", (1, 6), "found `new`, a word of the language"),
         ("type a = i8 \u{e9}", (1, 13), "has no meaning here"),
         (&inside("r = s"), (3, 9), "expected a register: `s` is none"),

@@ -7,6 +7,7 @@ use super::syntax::{
 };
 use crate::builder::record;
 use crate::file::Record;
+use crate::module::MAX_TERMS;
 
 struct Parser {
     tokens: Vec<(Token, Place)>,
@@ -144,13 +145,21 @@ impl Parser {
     }
 
     fn written_type(&mut self) -> Result<Type, Error> {
+        self.nested_type(MAX_TERMS)
+    }
+
+    /// A type of at most so many levels, each of which is a term of the module.
+    fn nested_type(&mut self, levels: usize) -> Result<Type, Error> {
         let place = self.place();
+        if levels == 0 {
+            return Error::at(place, format!("expected a type of at most {MAX_TERMS} levels"));
+        }
         let form = if self.takes("*") {
-            let target = self.written_type()?;
+            let target = self.nested_type(levels - 1)?;
             self.expect("in")?;
             TypeForm::Pointer(Box::new(target), self.reference("a region")?)
         } else if self.takes("[") {
-            let element = self.written_type()?;
+            let element = self.nested_type(levels - 1)?;
             self.expect(";")?;
             let count = self.number("the array's count", u32::MAX)?;
             self.expect("]")?;
