@@ -114,11 +114,11 @@ module _ (t w : Walk) (x : Record) where
       let j = both ((ltb (x .a) (t .names) || not (namesEnd t)) && leb (x .b) mostRegionParams) (eqb (x .c) 0 && four x (x .b) mostRegions) i in
       (leb-true (x .b) mostRegionParams (right (ltb (x .a) (t .names) || not (namesEnd t)) (leb (x .b) mostRegionParams) (j .0)), right (eqb (x .c) 0) (four x (x .b) mostRegions) (j .1))
 
-  few-arguments : TermCase t w x → x .b ≤ 8
-  few-arguments (of-integer k i) = omega (arith, integer-plain i)
-  few-arguments (of-pointer k i) = omega (arith, pointer-region i .0)
-  few-arguments (of-array k i) = omega (arith, array-plain i)
-  few-arguments (of-struct k i) = omega (arith, struct-regions i .0)
+  few-arguments : TermCase t w x → (x .kind ≡ kindPointer → ⊥) → x .b ≤ mostRegionParams
+  few-arguments (of-integer k i) h = omega (arith, integer-plain i)
+  few-arguments (of-pointer k i) h = absurd (h k)
+  few-arguments (of-array k i) h = omega (arith, array-plain i)
+  few-arguments (of-struct k i) h = struct-regions i .0
 
 -- record x is a term's that fits, before whichever record the walk stood
 pub record TermFits (f : Bytes) (x : Record) : Type 0 where

@@ -10,16 +10,15 @@ use lib.ListN.{length, getD, set, replicate, length-set, length-replicate, List�
 use lib.Seq.{getD-set-same, getD-set-other}
 use Rattle.words.specs.Bytes.{Bytes}
 use Rattle.words.specs.Choose.{lt-or-le}
-use Rattle.rules.specs.Types.{RegionKind, variable, sub, nowhere}
-use Rattle.rules.specs.Flat.{Placed, at as placed, Layout, count, single, moved, packed, copiesOf, placedIn}
+use Rattle.rules.specs.Types.{RegionKind, variable, sub, arg, nowhere}
+use Rattle.rules.specs.Flat.{Placed, at as placed, Layout, count, single, moved, packed, copiesOf, placedIn, subLayout}
 use Rattle.layout.specs.Prims.{nth, moved-moved, placed-moved, count-packed, count-copiesOf, size-copiesOf}
 use Rattle.layout.specs.Runs.{nth-left, nth-right, nth-copies as nth-copy}
 use Rattle.terms.specs.Compare.{byteUnder, under, sub-same}
 use Rattle.terms.specs.Extents.{Terms, fieldCount}
-use Rattle.terms.specs.Heads.{treeAt, headOf}
-use Rattle.terms.specs.declared.Head.the-variants.{Struct}
+use Rattle.terms.specs.Heads.{argsOf, treeAt}
 use Rattle.positions.specs.Table.{termLayout, structLayout}
-use Rattle.positions.specs.Positions.{Keeps, Agree, under-agree, argByte, Found, found-single, found-struct, struct-size, struct-count, struct-none, nth-copies, before, field, struct-fields, more-packed, fits-below, count-below, size-below}
+use Rattle.positions.specs.Positions.{Keeps, Agree, under-agree, argByte, Found, found-single, found-struct, struct-size, struct-count, nth-copies, before, field, struct-fields, more-packed, fits-below, count-below, size-below}
 use Rattle.positions.specs.declared.Primitive.{Primitive}
 use Rattle.flattening.specs.Written.{entryOf, Room, Written, Kept, Shifted, PastOf, Past}
 
@@ -210,21 +209,18 @@ copy-room x many h s l r = let m : suc h * s ≤ many * s = mul-le-mul-right s l
 pub copy-behind : (h s : ℕ) → 0 < h → s ≤ h * s
 copy-behind h s l = let m : 1 * s ≤ h * s = mul-le-mul-right s l in omega arith
 
--- ---- by the head
+-- ---- of a struct
 
 module _ {f : Bytes} {subs : List Bytes} {spots : List ℕ} {at : ℕ} {to : Bytes} {off : ℕ} (k p : ℕ) where
-  pub written-struct : (N c d : ℕ) → headOf f p ≡ Struct N c d → N < k → (inside : Bytes) → Keeps to → ((v : ℕ) → byteUnder inside v ≡ argByte to d c v)
+  pub written-struct : (N c d : ℕ) → termLayout f k p ≡ subLayout (arg (argsOf d c)) (structLayout f N) → (inside : Bytes) → Keeps to → ((v : ℕ) → byteUnder inside v ≡ argByte to d c v)
       → Written f subs spots at inside off (structLayout f N) → Written f subs spots at to off (termLayout f k p)
-  written-struct N c d e l inside keeps h w =
-      let same = struct-count f k p off 0 to N c d e l in
-      let size = struct-size f k p off 0 to N c d e l in
+  written-struct N c d is inside keeps h w =
+      let same = struct-count f k p off 0 to N c d is in
+      let size = struct-size f k p off 0 to N c d is in
       record {
-        each = λ i m. found-struct f k p off i to N c d e l inside keeps h (entryOf subs spots (at + i)) (w .each i (omega arith));
+        each = λ i m. found-struct f k p off i to N c d is inside keeps h (entryOf subs spots (at + i)) (w .each i (omega arith));
         near = λ i m. let n = w .near i (omega arith) in (omega (arith, n .0), n .1);
       }
-
-  pub written-unknown : (N c d : ℕ) → headOf f p ≡ Struct N c d → k ≤ N → Written f subs spots at to off (termLayout f k p)
-  written-unknown N c d e l = record { each = λ i m. absurd (struct-none f k p off i to N c d e l m); near = λ i m. absurd (struct-none f k p off i to N c d e l m) }
 
 -- ---- field by field
 

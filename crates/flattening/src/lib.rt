@@ -8,6 +8,7 @@ ghost use Rattle.rules.specs.Flat.{count, copiesOf};
 ghost use Rattle.positions.specs.Table.{Known, termLayout, structLayout};
 ghost use Rattle.positions.specs.Positions.{Keeps, Agree};
 ghost use Rattle.flattening.specs.Written.{entryOf, Room, Near, Written, Kept, Shifted, Past};
+use positions::Core;
 use positions::Primitive;
 use terms::Head;
 
@@ -110,17 +111,19 @@ pub fn term_written(
     if all == 0 {
         return;
     }
-    let c = positions::core_in(tab, p);
-    match terms::head_of(f, c) {
-        Head::Arr(many, a) => copies_written(f, n, k, a, to, off, many, subs, spots, at, tab),
-        Head::Struct(number, count, d) => {
-            if number < k {
-                let inside = positions::arguments(d, count, &to);
-                struct_written(f, n, number, inside, off, all, subs, spots, at, tab);
-            }
+    match positions::core_in(tab, p) {
+        Core::Fields(number, d) => {
+            let inside = positions::arguments(d, &to);
+            struct_written(f, n, number, inside, off, all, subs, spots, at, tab);
         }
-        Head::Int(_) => put(subs, spots, at, c, to, off),
-        Head::Ptr(_, _) => put(subs, spots, at, c, to, off),
+        Core::Term(c) => match terms::head_of(f, c) {
+            Head::Arr(many, a) => {
+                copies_written(f, n, k, a, to, off, many, subs, spots, at, tab);
+            }
+            Head::Int(_) => put(subs, spots, at, c, to, off),
+            Head::Ptr(_, _) => put(subs, spots, at, c, to, off),
+            Head::Struct(_, _, _) => {}
+        },
     }
 }
 

@@ -17,15 +17,14 @@ use Rattle.rules.specs.Flat.{Placed, at, off, Layout, count, single, moved, pac
 use Rattle.rules.specs.Decode.{moduleOf}
 use Rattle.layout.specs.Types.{sub-sub}
 use Rattle.layout.specs.Prims.{nth, moved-moved, placed-moved, count-packed, count-copiesOf, size-copiesOf, beside-sized, beside-none, copies-sized, copies-fit, subLayout-size, count-sub}
-use Rattle.layout.specs.Flat.{struct-known}
 use Rattle.layout.specs.Runs.{nth-left, nth-right, nth-copies as nth-copy, nth-sub}
-use Rattle.terms.specs.declared.Head.the-variants.{Int, Ptr, Arr, Struct}
+use Rattle.terms.specs.declared.Head.the-variants.{Int, Ptr, Arr}
 use Rattle.terms.specs.Heads.{digit, argsOf, treeAt, headOf, grow}
 use Rattle.terms.specs.HeadLaws.{tree-step}
 use Rattle.terms.specs.Extents.{Terms, fieldPlace, fieldCount, firsts}
-use Rattle.terms.specs.ExtentLaws.{layout-unknown, fields-firsts, module-fields}
-use Rattle.terms.specs.Compare.{byteUnder, under, under-is, sub-same}
-use Rattle.positions.specs.Table.{termLayout, structLayout, Core}
+use Rattle.terms.specs.ExtentLaws.{fields-firsts, module-fields}
+use Rattle.terms.specs.Compare.{byteUnder, under, under-is, sub-same, getD-any}
+use Rattle.positions.specs.Table.{termLayout, structLayout, ownByte}
 use Rattle.positions.specs.TableLaws.{layout-at, layout-arr}
 use Rattle.positions.specs.declared.Primitive.{Primitive}
 
@@ -51,8 +50,27 @@ pub arg-out : (to : Bytes) (d c v : ℕ) → c ≤ v → argByte to d c v ≡ no
 unfolding argByte
 arg-out to d c v h = cond-nlt _ _ h
 
+pub own-in : (d c v : ℕ) → v < c → ownByte d c v ≡ digit d v
+unfolding ownByte
+own-in d c v h = cond-lt _ _ h
+
+pub own-out : (d c v : ℕ) → c ≤ v → ownByte d c v ≡ nowhere
+unfolding ownByte
+own-out d c v h = cond-nlt _ _ h
+
+-- arguments held are the arguments
+pub own-args : (to : Bytes) (d c : ℕ) → ((v : ℕ) → byteUnder to v ≡ ownByte d c v) → (v : Variable) → arg (argsOf d c) v ≡ under {k = variable} to v
+unfolding argsOf
+own-args to d c h v = ⊎-elim
+    (λ l. getD-listOf (λ j. region (digit d j)) c (v .number) (region nowhere) l ∙ ap region (sym (h (v .number) ∙ own-in d c (v .number) l)) ∙ sym (under-is to v))
+    (λ l. listOf-past (λ j. region (digit d j)) c (v .number) (region nowhere) l ∙ ap region (sym (h (v .number) ∙ own-out d c (v .number) l)) ∙ sym (under-is to v))
+    (lt-or-le (v .number) c)
+
+pub keeps-own : (to : Bytes) (d c : ℕ) → c ≤ 4 → ((v : ℕ) → byteUnder to v ≡ ownByte d c v) → Keeps to
+keeps-own to d c l h = h nowhere ∙ own-out d c nowhere (omega arith)
+
 -- arguments put in, then the substitution, is the substitution of the arguments
-under-args : {k : RegionKind} (to inside : Bytes) (d c : ℕ) → Keeps to → ((v : ℕ) → byteUnder inside v ≡ argByte to d c v) → (v : Variable) → under {k = k} to (arg (argsOf d c) v) ≡ under inside v
+pub under-args : {k : RegionKind} (to inside : Bytes) (d c : ℕ) → Keeps to → ((v : ℕ) → byteUnder inside v ≡ argByte to d c v) → (v : Variable) → under {k = k} to (arg (argsOf d c) v) ≡ under inside v
 unfolding argsOf
 under-args {k} to inside d c keeps h v = ⊎-elim
     (λ l.
@@ -63,7 +81,7 @@ under-args {k} to inside d c keeps h v = ⊎-elim
     ∙ under-is to (region nowhere) ∙ ap region (keeps ∙ sym (h (v .number) ∙ arg-out to d c (v .number) l)) ∙ sym (under-is inside v))
     (lt-or-le (v .number) c)
 
-pub keeps-args : (to inside : Bytes) (d c : ℕ) → c ≤ 8 → ((v : ℕ) → byteUnder inside v ≡ argByte to d c v) → Keeps inside
+pub keeps-args : (to inside : Bytes) (d c : ℕ) → c ≤ 4 → ((v : ℕ) → byteUnder inside v ≡ argByte to d c v) → Keeps inside
 keeps-args to inside d c l h = h nowhere ∙ arg-out to d c nowhere (omega arith)
 
 pub under-agree : {k : RegionKind} (p q : Bytes) → Agree p q → (v : Variable) → under {k = k} p v ≡ under q v
@@ -90,7 +108,7 @@ module _ {k : RegionKind} (n : ℕ) (L : Layout k) (i : ℕ) (some : 0 < count L
   pub nth-copies : nth (copiesOf n L) i ≡ moved (i / count L * L .size) (nth L (i % count L))
   nth-copies = ap (λ (x : ℕ). nth (copiesOf n L) x) (sym (div-add-mod' i (count L))) ∙ nth-copy n L (i / count L) (i % count L) copy-before copy-inside
 
-placed-placed : {i j k : RegionKind} (σ : Region j → Region k) (τ : Region i → Region j) (ρ : Region i → Region k) → ((v : Region i) → σ (τ v) ≡ ρ v) → (P : Placed i) → placedIn σ (placedIn τ P) ≡ placedIn ρ P
+pub placed-placed : {i j k : RegionKind} (σ : Region j → Region k) (τ : Region i → Region j) (ρ : Region i → Region k) → ((v : Region i) → σ (τ v) ≡ ρ v) → (P : Placed i) → placedIn σ (placedIn τ P) ≡ placedIn ρ P
 placed-placed {k = k} σ τ ρ h (at d T) = ap {B = Placed k} (at d) (sub-sub σ τ T ∙ sub-same (λ v. σ (τ v)) ρ h T)
 
 -- ---- by the head
@@ -111,28 +129,18 @@ module _ (f : Bytes) (k p off i : ℕ) (to : Bytes) where
   unfolding grow flatWith
   single-ptr a r e = layout-at f k p (Ptr a r) e ∙ ap (single 4) (sym (tree-step f p ∙ ap (grow (treeAt f)) e))
 
-  -- a struct that is not known has no primitives
-  pub struct-none : (N c d : ℕ) → headOf f p ≡ Struct N c d → k ≤ N → i < count (termLayout f k p) → ⊥
-  unfolding grow flatWith subLayout
-  struct-none N c d e l h =
-      let z = ap (λ (L : Layout variable). count L) (layout-at f k p (Struct N c d) e ∙ ap (subLayout (arg (argsOf d c))) (layout-unknown (moduleOf f) k N l)) in
-      omega (arith, z, h)
-
-  module _ (N c d : ℕ) (e : headOf f p ≡ Struct N c d) (l : N < k) where
-    pub layout-struct : termLayout f k p ≡ subLayout (arg (argsOf d c)) (structLayout f N)
-    unfolding grow flatWith structLayout
-    layout-struct = layout-at f k p (Struct N c d) e ∙ ap (subLayout (arg (argsOf d c))) (struct-known (moduleOf f) k N l)
-
+  -- a struct, whatever led to it
+  module _ (N c d : ℕ) (is : termLayout f k p ≡ subLayout (arg (argsOf d c)) (structLayout f N)) where
     pub struct-size : structLayout f N .size ≡ termLayout f k p .size
-    struct-size = sym (subLayout-size (arg (argsOf d c)) (structLayout f N)) ∙ ap (λ (L : Layout variable). L .size) (sym layout-struct)
+    struct-size = sym (subLayout-size (arg (argsOf d c)) (structLayout f N)) ∙ ap (λ (L : Layout variable). L .size) (sym is)
 
     pub struct-count : count (structLayout f N) ≡ count (termLayout f k p)
-    struct-count = sym (count-sub (arg (argsOf d c)) (structLayout f N)) ∙ ap (λ (L : Layout variable). count L) (sym layout-struct)
+    struct-count = sym (count-sub (arg (argsOf d c)) (structLayout f N)) ∙ ap (λ (L : Layout variable). count L) (sym is)
 
     pub found-struct : (inside : Bytes) → Keeps to → ((v : ℕ) → byteUnder inside v ≡ argByte to d c v) → (r : Primitive) → Found f r inside off (nth (structLayout f N) i) → Found f r to off (nth (termLayout f k p) i)
     found-struct inside keeps h r found j =
         found j
-        ∙ ap (moved off) (sym (ap (λ (L : Layout variable). placedIn (under {k = j} to) (nth L i)) layout-struct ∙ ap (placedIn (under to)) (nth-sub (arg (argsOf d c)) (structLayout f N) i)
+        ∙ ap (moved off) (sym (ap (λ (L : Layout variable). placedIn (under {k = j} to) (nth L i)) is ∙ ap (placedIn (under to)) (nth-sub (arg (argsOf d c)) (structLayout f N) i)
         ∙ placed-placed (under to) (arg (argsOf d c)) (under inside) (under-args to inside d c keeps h) (nth (structLayout f N) i)))
 
   module _ (c a : ℕ) (e : headOf f p ≡ Arr c a) (fits : off + termLayout f k p .size ≤ 256) (inside : i < count (termLayout f k p)) where
@@ -156,35 +164,30 @@ module _ (f : Bytes) (k p off i : ℕ) (to : Bytes) where
     pub element-some : count (termLayout f k a) ≡ 0 → ⊥
     element-some z = let w : i < c * 0 = subst (λ (x : ℕ). i < c * x) z arr-count in omega arith
 
-    -- the core of the element: its extent, and what is found in it
-    module _ (b : ℕ) (core : Core f a b) (cnt sz : ℕ) (is-count : cnt ≡ count (termLayout f k a)) (is-size : sz ≡ termLayout f k a .size) where
-      same-core : termLayout f k a ≡ termLayout f k b
-      same-core = core .same k element-fits
-
+    -- the extent of the element, and what is found in it
+    module _ (cnt sz : ℕ) (is-count : cnt ≡ count (termLayout f k a)) (is-size : sz ≡ termLayout f k a .size) where
       some-element : 0 < count (termLayout f k a)
       some-element = ⊎-elim (λ l. l) (λ l. absurd (element-some (omega arith))) (lt-or-le 0 (count (termLayout f k a)))
 
-      pub core-inside : i % cnt < count (termLayout f k b)
-      core-inside =
-          let z = copy-inside c (termLayout f k a) i some-element arr-count in
-          rw (is-count) (omega (arith, z, ap (λ (L : Layout variable). count L) same-core))
+      pub element-inside : i % cnt < count (termLayout f k a)
+      element-inside = rw is-count (copy-inside c (termLayout f k a) i some-element arr-count)
 
-      pub core-fits : off + i / cnt * sz + termLayout f k b .size ≤ 256
-      core-fits =
+      pub element-room : off + i / cnt * sz + termLayout f k a .size ≤ 256
+      element-room =
           let z = copy-before c (termLayout f k a) i some-element arr-count in
           let m : suc (i / count (termLayout f k a)) * termLayout f k a .size ≤ c * termLayout f k a .size = mul-le-mul-right (termLayout f k a .size) z in
           let w = ap (λ (L : Layout variable). L .size) arr-layout in
-          rw (is-count, is-size) (omega (arith, m, w, size-copiesOf c (termLayout f k a), ap (λ (L : Layout variable). L .size) same-core, fits))
+          rw (is-count, is-size) (omega (arith, m, w, size-copiesOf c (termLayout f k a), fits))
 
       pub offset-le : off + i / cnt * sz ≤ 256
-      offset-le = let z = core-fits in omega arith
+      offset-le = let z = element-room in omega arith
 
-      pub found-arr : (r : Primitive) → Found f r to (off + i / cnt * sz) (nth (termLayout f k b) (i % cnt)) → Found f r to off (nth (termLayout f k p) i)
+      pub found-arr : (r : Primitive) → Found f r to (off + i / cnt * sz) (nth (termLayout f k a) (i % cnt)) → Found f r to off (nth (termLayout f k p) i)
       found-arr r found j =
           let x : ℕ = i / count (termLayout f k a) * termLayout f k a .size in
           let P : Placed variable = nth (termLayout f k a) (i % count (termLayout f k a)) in
           let here : nth (termLayout f k p) i ≡ moved x P = ap (λ (L : Layout variable). nth L i) arr-layout ∙ nth-copies c (termLayout f k a) i some-element arr-count in
-          let given : placedOf j f r ≡ moved (off + x) (placedIn (under to) P) = rw (is-count, is-size, sym same-core) at (found j) in
+          let given : placedOf j f r ≡ moved (off + x) (placedIn (under to) P) = rw (is-count, is-size) at (found j) in
           given ∙ sym (moved-moved off x (placedIn (under {k = j} to) P)) ∙ ap (moved off) (sym (placed-moved (under {k = j} to) x P)) ∙ ap (λ (Q : Placed variable). moved off (placedIn (under {k = j} to) Q)) (sym here)
 
 -- ---- field by field
@@ -275,18 +278,14 @@ module _ (f : Bytes) (n N : ℕ) where
       pub sums-small : sz + field j .size ≤ 256
       sums-small = let s = here-fits in omega (arith, size-next)
 
-      module _ (b : ℕ) (core : Core f (fieldPlace f n N j) b) (after : cnt ≤ i) (here : i < cnt + count (field j)) where
-        same-field : field j ≡ termLayout f N b
-        same-field = core .same N field-fits
+      module _ (after : cnt ≤ i) (here : i < cnt + count (field j)) where
+        pub field-inside : i - cnt < count (field j)
+        field-inside = omega arith
 
-        pub field-inside : i - cnt < count (termLayout f N b)
-        field-inside = omega (arith, ap (λ (L : Layout variable). count L) same-field)
+        pub in-field : off + sz + field j .size ≤ 256
+        in-field = omega (arith, fits, size-below (suc j) (fieldCount f n N) less all-fit, ap (λ (L : Layout variable). L .size) (struct-fields is), size-next)
 
-        pub core-in-field : off + sz + termLayout f N b .size ≤ 256
-        core-in-field =
-            omega (arith, fits, size-below (suc j) (fieldCount f n N) less all-fit, ap (λ (L : Layout variable). L .size) (struct-fields is), size-next, ap (λ (L : Layout variable). L .size) same-field)
-
-        pub found-field : (r : Primitive) (to : Bytes) → Found f r to (off + sz) (nth (termLayout f N b) (i - cnt)) → Found f r to off (nth (structLayout f N) i)
+        pub found-field : (r : Primitive) (to : Bytes) → Found f r to (off + sz) (nth (field j) (i - cnt)) → Found f r to off (nth (structLayout f N) i)
         found-field r to found k =
             let P : Placed variable = nth (field j) (i - cnt) in
             let e : count (before j) + (i - cnt) ≡ i = omega arith in
@@ -294,10 +293,16 @@ module _ (f : Bytes) (n N : ℕ) where
             ap (λ (L : Layout variable). nth L i) (struct-fields is) ∙ nth-below (suc j) (fieldCount f n N) i less all-fit (omega (arith, count-next))
             ∙ ap (λ (L : Layout variable). nth L i) (more-packed j here-fits) ∙ ap (λ (x : ℕ). nth (packed (before j) (field j)) x) (sym e)
             ∙ nth-right (before j) (field j) (i - cnt) (omega arith) ∙ ap (λ (x : ℕ). moved x P) (sym is-size) in
-            let given : placedOf k f r ≡ moved (off + sz) (placedIn (under to) P) = rw (sym same-field) at (found k) in
-            given ∙ sym (moved-moved off sz (placedIn (under {k = k} to) P)) ∙ ap (moved off) (sym (placed-moved (under {k = k} to) sz P)) ∙ ap (λ (Q : Placed variable). moved off (placedIn (under {k = k} to) Q)) (sym place)
+            found k ∙ sym (moved-moved off sz (placedIn (under {k = k} to) P)) ∙ ap (moved off) (sym (placed-moved (under {k = k} to) sz P)) ∙ ap (λ (Q : Placed variable). moved off (placedIn (under {k = k} to) Q)) (sym place)
 
--- ---- eight bytes held
+-- ---- four and eight bytes held
+
+pub four : (g : ℕ → ℕ) (a0 a1 a2 a3 : ℕ) → a0 ≡ g 0 → a1 ≡ g 1 → a2 ≡ g 2 → a3 ≡ g 3 → ((v : ℕ) → 4 ≤ v → g v ≡ nowhere) → (v : ℕ) → getD (a0 ∷ a1 ∷ a2 ∷ a3 ∷ []) v nowhere ≡ g v
+four g a0 a1 a2 a3 p0 p1 p2 p3 h zero = p0
+four g a0 a1 a2 a3 p0 p1 p2 p3 h (suc zero) = p1
+four g a0 a1 a2 a3 p0 p1 p2 p3 h (suc (suc zero)) = p2
+four g a0 a1 a2 a3 p0 p1 p2 p3 h (suc (suc (suc zero))) = p3
+four g a0 a1 a2 a3 p0 p1 p2 p3 h (suc (suc (suc (suc v)))) = sym (h (suc (suc (suc (suc v)))) (omega arith))
 
 pub eight : (g : ℕ → ℕ) (a0 a1 a2 a3 a4 a5 a6 a7 : ℕ) → a0 ≡ g 0 → a1 ≡ g 1 → a2 ≡ g 2 → a3 ≡ g 3 → a4 ≡ g 4 → a5 ≡ g 5 → a6 ≡ g 6 → a7 ≡ g 7
     → ((v : ℕ) → 8 ≤ v → g v ≡ nowhere) → (v : ℕ) → getD (a0 ∷ a1 ∷ a2 ∷ a3 ∷ a4 ∷ a5 ∷ a6 ∷ a7 ∷ []) v nowhere ≡ g v
@@ -314,3 +319,21 @@ eight g a0 a1 a2 a3 a4 a5 a6 a7 p0 p1 p2 p3 p4 p5 p6 p7 h (suc (suc (suc (suc (s
 
 pub keeps-held : (r to : Bytes) → length to ≤ 8 → Agree r to → Keeps r
 keeps-held r to l h = h nowhere ∙ List·getD-eq-default to nowhere (omega arith)
+
+-- four bytes as one number
+pub joined-bytes : (to : Bytes) (a0 a1 a2 a3 : ℕ) → length to ≡ 4 → (a0 ≡ getD to 0 0) × (a0 < 256) → (a1 ≡ getD to 1 0) × (a1 < 256) → (a2 ≡ getD to 2 0) × (a2 < 256) → (a3 ≡ getD to 3 0) × (a3 < 256)
+    → (v : ℕ) → byteUnder to v ≡ ownByte (a0 + 256 * a1 + 65536 * a2 + 16777216 * a3) 4 v
+joined-bytes to a0 a1 a2 a3 l p0 p1 p2 p3 = go
+  where
+    d : ℕ
+    d = a0 + 256 * a1 + 65536 * a2 + 16777216 * a3
+
+    byte : (v x : ℕ) → v < 4 → x ≡ getD to v 0 → digit d v ≡ x → byteUnder to v ≡ ownByte d 4 v
+    byte v x h e q = getD-any to v nowhere 0 (omega arith) ∙ sym e ∙ sym q ∙ sym (own-in d 4 v h)
+
+    go : (v : ℕ) → byteUnder to v ≡ ownByte d 4 v
+    go zero = byte 0 a0 (omega arith) (p0 .0) (omega (arith, p0 .1))
+    go (suc zero) = byte 1 a1 (omega arith) (p1 .0) (omega (arith, p0 .1, p1 .1))
+    go (suc (suc zero)) = byte 2 a2 (omega arith) (p2 .0) (omega (arith, p0 .1, p1 .1, p2 .1))
+    go (suc (suc (suc zero))) = byte 3 a3 (omega arith) (p3 .0) (omega (arith, p0 .1, p1 .1, p2 .1, p3 .1))
+    go (suc (suc (suc (suc v)))) = List·getD-eq-default to nowhere {n = suc (suc (suc (suc v)))} (omega arith) ∙ sym (own-out d 4 (suc (suc (suc (suc v)))) (omega arith))

@@ -1,22 +1,23 @@
--- Laws of the table of extents: counts are exact where integers have bytes; cores; filling; a table for all structs is one for
+-- Laws of the table of extents: counts are exact where integers have bytes; layouts by the head; filling; a table for all structs is one for
 -- fewer. Assumes nothing.
 use mathlib.Core.Path.{_≡_, refl, sym, ap, ap₂, _∙_, subst}
 use mathlib.Core.Logic.{⊎-elim}
-use mathlib.Core.List.{List, append-nil}
-use Prim.Native.Nat.{ℕ, zero, suc, _+_, _-_, _*_, _/_, _≤_, _<_}
-use native.Mathlib.Nat.{mul-le-mul-left, le-refl, add-zero}
+use mathlib.Core.List.{List}
+use Prim.Native.Nat.{ℕ, zero, suc, _+_, _-_, _*_, _/_, _%_, _≤_, _<_}
+use native.Mathlib.Nat.{mul-le-mul-left, le-refl}
 use native.Mathlib.Numerals.{add-one}
 use native.Mathlib.Omega.{arith}
 use lib.Dec.{eqb}
 use lib.ListN.{length, getD, set, length-map}
 use lib.Seq.{getD-set-same, getD-set-other}
-use borrow.Author.Tests.{eqb-true}
+use borrow.Author.Tests.{eqb-true, eq-eqb}
 use Rattle.words.specs.Bytes.{Bytes, AllBytes}
-use Rattle.words.specs.Choose.{cond-split, lt-or-le}
+use Rattle.words.specs.Choose.{cond-lt, cond-nlt, cond-split, true-not-false, lt-or-le}
+use Rattle.rules.specs.Limits.{mostRegionParams}
 use Rattle.rules.specs.File.{recordOf}
 use Rattle.rules.specs.Types.{RegionKind, variable, Region, Tree, int, ptr, arr, struct, arg}
 use Rattle.rules.specs.Module.{Module}
-use Rattle.rules.specs.Flat.{Placed, Layout, count, none, beside, copiesOf, copies, placedIn, subLayout, flatWith, layouts, flat}
+use Rattle.rules.specs.Flat.{Layout, count, none, beside, copiesOf, copies, placedIn, subLayout, flatWith, layouts, flat}
 use Rattle.rules.specs.Decode.{moduleOf}
 use Rattle.rules.specs.declared.Record.{Record}
 use Rattle.layout.specs.Prims.{count-packed, count-copiesOf, size-copiesOf, beside-sized, beside-none, copies-sized, copies-none, copies-fit, subLayout-size}
@@ -24,11 +25,13 @@ use Rattle.layout.specs.Flat.{struct-known}
 use Rattle.terms.specs.declared.Extent.{Extent}
 use Rattle.terms.specs.declared.Head.{Head}
 use Rattle.terms.specs.declared.Head.the-variants.{Int, Ptr, Arr, Struct}
-use Rattle.terms.specs.Heads.{placeOf, treeAt, headFrom, headOf, grow}
+use Rattle.terms.specs.Heads.{placeOf, argsOf, treeAt, headFrom, headOf, grow}
 use Rattle.terms.specs.HeadLaws.{tree-step, head-none, place-le, Fair, fair}
 use Rattle.terms.specs.Extents.{Terms, Counted, over, plus, times, Small, termExtent, fieldPlace, fieldCount, firsts, soFar}
 use Rattle.terms.specs.ExtentLaws.{cap-same, plus-over, plus-fits, times-over, times-fits, term-int, term-ptr, term-arr, term-known, term-unknown, struct-all, so-begin, so-more, layout-unknown, fields-firsts, module-fields, module-term}
-use Rattle.positions.specs.Table.{termLayout, structLayout, exactOf, InRange, Ranged, pack, unpack, entryAt, coreAt, Core, Few, Filled, Known, Table}
+use Rattle.positions.specs.Table.{termLayout, structLayout, exactOf, InRange, Ranged, coreNo, coreFrom, Fits, pack, unpack, entryAt, coreAt, Bare, NoStruct, CoreIs, Few, Filled, Known, Table}
+use Rattle.positions.specs.declared.Core.{Core}
+use Rattle.positions.specs.declared.Core.the-variants.{Term, Fields}
 
 -- ---- no more primitives than bytes
 
@@ -83,14 +86,14 @@ SolidHead : Head → Type 0
 SolidHead (Int w) = 0 < w
 SolidHead (Ptr a r) = Unit {0}
 SolidHead (Arr n a) = Unit {0}
-SolidHead (Struct N n d) = n ≤ 8
+SolidHead (Struct N n d) = n ≤ mostRegionParams
 
 solid-from : (t : ℕ) (x : Record) → InRange x → SolidHead (headFrom t x)
 unfolding headFrom SolidHead
 solid-from t x h =
     cond-split SolidHead (eqb (x .kind) 1) _ _ (λ e. h .0 (eqb-true (x .kind) 1 e))
     (λ _. cond-split SolidHead (eqb (x .kind) 2) _ _ (λ _. tt)
-    (λ _. cond-split SolidHead (eqb (x .kind) 3) _ _ (λ _. tt) (λ _. h .1)))
+    (λ e. cond-split SolidHead (eqb (x .kind) 3) _ _ (λ _. tt) (λ _. h .1 (λ z. true-not-false (eq-eqb (x .kind) 2 z) e))))
 
 module _ (f : Bytes) (n : ℕ) (range : Ranged f n) where
   solid-head : (p : ℕ) → p ≤ n → SolidHead (headOf f p)
@@ -146,16 +149,7 @@ module _ (f : Bytes) (n : ℕ) (range : Ranged f n) where
       unfolding termLayout
       neat k p h = neat-with (layouts (moduleOf f) k) (neat-layouts k) (treeAt f p) (solid p h)
 
--- ---- cores
-
-pub core-self : (f : Bytes) (p : ℕ) → Core f p p
-core-self f p = record { low = le-refl p; same = λ k h. refl }
-
-copies-one : {k : RegionKind} (L : Layout k) → copies 1 L .size ≤ 256 → copies 1 L ≡ L
-unfolding copiesOf
-copies-one {k} L h =
-    let fits = copies-fit 1 L h in
-    copies-sized 1 L fits ∙ ap₂ (λ (s : ℕ) (l : List (Placed k)). record { size = s; prims = l }) (add-zero (L .size)) (append-nil (L .prims))
+-- ---- by the head
 
 module _ (f : Bytes) (k p : ℕ) where
   -- the layout by the head
@@ -167,26 +161,55 @@ module _ (f : Bytes) (k p : ℕ) where
   unfolding grow flatWith termLayout
   layout-arr c a e = layout-at (Arr c a) e
 
--- an array of one has its element's core
-pub core-one : (f : Bytes) (p c a r : ℕ) → headOf f p ≡ Arr c a → c ≡ 1 → a < p → Core f a r → Core f p r
-core-one f p c a r e one less core = record {
-  low = let l = core .low in omega arith;
-  same = λ k h.
-      let z : termLayout f k p ≡ copies 1 (termLayout f k a) = layout-arr f k p c a e ∙ ap (λ (x : ℕ). copies x (termLayout f k a)) one in
-      let w : termLayout f k p ≡ termLayout f k a = z ∙ copies-one (termLayout f k a) (rw z at h) in
-      w ∙ core .same k (rw w at h);
-}
+  module _ (N c d : ℕ) (e : headOf f p ≡ Struct N c d) where
+    pub layout-struct : N < k → termLayout f k p ≡ subLayout (arg (argsOf d c)) (structLayout f N)
+    unfolding grow flatWith structLayout
+    layout-struct l = layout-at (Struct N c d) e ∙ ap (subLayout (arg (argsOf d c))) (struct-known (moduleOf f) k N l)
+
+    -- a struct that is not known has no size
+    pub struct-sized : termLayout f k p .size ≤ 256 → N < k
+    unfolding grow flatWith
+    struct-sized s = ⊎-elim
+        (λ l. l)
+        (λ l.
+        let z : termLayout f k p ≡ subLayout (arg (argsOf d c)) none = layout-at (Struct N c d) e ∙ ap (subLayout (arg (argsOf d c))) (layout-unknown (moduleOf f) k N l) in
+        absurd (omega (arith, s, ap (λ (L : Layout variable). L .size) z, subLayout-size (arg (argsOf d c)) (none {k = variable}))))
+        (lt-or-le N k)
 
 -- ---- filling
 
-unpack-pack : (e : Extent) (c : ℕ) → Small e → unpack (pack e c) ≡ e
+unpack-pack : (e : Extent) (c : Core) → Small e → unpack (pack e c) ≡ e
 unpack-pack e c h = ap₂ (λ (s n : ℕ). record { size = s; count = n }) (omega arith) (omega arith)
+
+core-back : (c : Core) → Fits c → coreFrom (coreNo c) ≡ c
+unfolding coreFrom
+core-back (Term c) h = let e : c % 512 ≡ c = omega arith in let l : c % 512 < 129 = omega arith in cond-lt _ _ l ∙ ap Term e
+core-back (Fields N d) h =
+    let e : (129 + N + 512 * d) % 512 - 129 ≡ N = omega (arith, h .0) in
+    let q : (129 + N + 512 * d) / 512 ≡ d = omega (arith, h .0) in
+    let l : 129 ≤ (129 + N + 512 * d) % 512 = omega (arith, h .0) in
+    cond-nlt _ _ l ∙ ap₂ Fields e q
+
+pub core-small : (c : Core) → Fits c → coreNo c < 2199023255552
+core-small (Term c) h = omega arith
+core-small (Fields N d) h = omega (arith, h .0, h .1)
+
+core-pack : (e : Extent) (c : Core) → Small e → Fits c → coreFrom (pack e c / 1048576) ≡ c
+core-pack e c s h = let q : pack e c / 1048576 ≡ coreNo c = omega arith in ap coreFrom q ∙ core-back c h
+
+-- it fits an entry
+pub core-fits : (f : Bytes) (p : ℕ) (c : Core) → p ≤ 128 → CoreIs f p c → Fits c
+core-fits f p (Term c) h is = let l = is .0 .low in omega arith
+core-fits f p (Fields N d) h is = (is .number, is .word)
+
+pub bare-self : (f : Bytes) (p : ℕ) → Bare f p p
+bare-self f p = record { low = le-refl p; same = λ k h. refl }
 
 pub filled-none : (f : Bytes) (k : ℕ) (tab : List ℕ) → Filled f k tab 1
 unfolding entryAt coreAt
 filled-none f k tab = record {
   entries = λ p h. let e : p ≡ 0 = omega arith in rw e (sym (term-int f k 0 1 (head-none f 0 refl)));
-  cores = λ p h. let e : p ≡ 0 = omega arith in rw e (core-self f 0);
+  cores = λ p h. let e : p ≡ 0 = omega arith in rw e (bare-self f 0, subst NoStruct (sym (head-none f 0 refl)) tt);
 }
 
 entry-old : (tab : List ℕ) (t x p : ℕ) → p ≤ t → entryAt (set tab t x) p ≡ entryAt tab p
@@ -197,19 +220,21 @@ entry-old tab t x (suc q) h = ap unpack (getD-set-other tab t q x 0 (λ e. omega
 core-old : (tab : List ℕ) (t x p : ℕ) → p ≤ t → coreAt (set tab t x) p ≡ coreAt tab p
 unfolding coreAt
 core-old tab t x zero h = refl
-core-old tab t x (suc q) h = ap (λ (y : ℕ). y / 1048576) (getD-set-other tab t q x 0 (λ e. omega arith))
+core-old tab t x (suc q) h = ap (λ (y : ℕ). coreFrom (y / 1048576)) (getD-set-other tab t q x 0 (λ e. omega arith))
 
-pub filled-more : (f : Bytes) (k : ℕ) (tab : List ℕ) (t : ℕ) (e : Extent) (c x : ℕ) → t < length tab → Filled f k tab (t + 1)
-    → e ≡ termExtent f k (t + 1) → Small e → Core f (t + 1) c → x ≡ pack e c → Filled f k (set tab t x) (t + 1 + 1)
+pub filled-more : (f : Bytes) (k : ℕ) (tab : List ℕ) (t : ℕ) (e : Extent) (c : Core) (x : ℕ) → t < length tab → Filled f k tab (t + 1)
+    → e ≡ termExtent f k (t + 1) → Small e → CoreIs f (t + 1) c → Fits c → x ≡ pack e c → Filled f k (set tab t x) (t + 1 + 1)
 unfolding entryAt coreAt
-filled-more f k tab t e c x l so is small core px = record {
+filled-more f k tab t e c x l so is small core fits px = record {
   entries = λ p h. ⊎-elim
       (λ m. entry-old tab t x p (omega arith) ∙ so .entries p m)
       (λ m. let q : p ≡ suc t = omega arith in rw (q, getD-set-same tab t x 0 l) (ap unpack px ∙ unpack-pack e c small ∙ is ∙ ap (termExtent f k) (add-one t)))
       (lt-or-le p (t + 1));
   cores = λ p h. ⊎-elim
       (λ m. rw (core-old tab t x p (omega arith)) (so .cores p m))
-      (λ m. let q : p ≡ suc t = omega arith in let z : x / 1048576 ≡ c = omega arith in rw (q, getD-set-same tab t x 0 l, z) (rw (add-one t) at core))
+      (λ m. let q : p ≡ suc t = omega arith in
+      let z : coreFrom (x / 1048576) ≡ c = ap (λ (y : ℕ). coreFrom (y / 1048576)) px ∙ core-pack e c small fits in
+      rw (q, getD-set-same tab t x 0 l, z) (rw (add-one t) at core))
       (lt-or-le p (t + 1));
 }
 
@@ -266,7 +291,6 @@ filled-table f bytes n k h range tab t l so small = record {
   counts = λ p m. neat f n range bytes (h .terms) k p m .1;
   sized = λ p m c. has-size f bytes n (h .terms) k p (neat f n range bytes (h .terms) k p m .1) c;
   cores = λ p m. so .cores p (omega arith);
-  few = few-args f n range;
 }
 
 -- ---- fewer structs
@@ -291,14 +315,13 @@ unfolding termLayout
 layout-more f k K p h s = with-more (moduleOf f) k K h (treeAt f p) s
 
 pub known-table : (f : Bytes) (n k : ℕ) (tab : List ℕ) → Table f n k tab → Known f n k tab
-known-table f n k tab h = record { terms = h .counted .terms; entries = λ p l _. h .entries p l; cores = h .cores; few = h .few }
+known-table f n k tab h = record { terms = h .counted .terms; entries = λ p l _. h .entries p l; cores = h .cores }
 
 pub known-less : (f : Bytes) (n k K : ℕ) (tab : List ℕ) → k ≤ K → Known f n K tab → Known f n k tab
 known-less f n k K tab h all = record {
   terms = all .terms;
   entries = λ p l s. let e = layout-more f k K p h s in all .entries p l (rw e at s) ∙ ap (λ (L : Layout variable). exactOf L) (sym e);
   cores = all .cores;
-  few = all .few;
 }
 
 -- ---- as the code reads it
@@ -315,14 +338,14 @@ module _ (tab : List ℕ) (p : ℕ) where
       go zero h = absurd (h refl)
       go (suc t) h = unfold entryAt in let e : suc t - 1 ≡ t = omega arith in rw e
 
-  pub core-none : p ≡ 0 → coreAt tab p ≡ 0
+  pub core-none : p ≡ 0 → coreAt tab p ≡ Term 0
   unfolding coreAt
   core-none e = rw e
 
-  pub core-some : (p ≡ 0 → ⊥) → (x : ℕ) → x ≡ getD tab (p - 1) 0 → x / 1048576 ≡ coreAt tab p
-  core-some h x q = ap (λ (y : ℕ). y / 1048576) q ∙ go p h
+  pub core-some : (p ≡ 0 → ⊥) → (x : ℕ) → x ≡ getD tab (p - 1) 0 → coreFrom (x / 1048576) ≡ coreAt tab p
+  core-some h x q = ap (λ (y : ℕ). coreFrom (y / 1048576)) q ∙ go p h
     where
-      go : (p : ℕ) → (p ≡ 0 → ⊥) → getD tab (p - 1) 0 / 1048576 ≡ coreAt tab p
+      go : (p : ℕ) → (p ≡ 0 → ⊥) → coreFrom (getD tab (p - 1) 0 / 1048576) ≡ coreAt tab p
       go zero h = absurd (h refl)
       go (suc t) h = unfold coreAt in let e : suc t - 1 ≡ t = omega arith in rw e
 

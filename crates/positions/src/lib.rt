@@ -7,9 +7,10 @@ ghost use lib.ListN.{length};
 ghost use Rattle.rules.specs.Flat.{flat, count, size, distance, positionAt};
 ghost use Rattle.rules.specs.Decode.{moduleOf};
 ghost use Rattle.layout.specs.Prims.{nth};
-ghost use Rattle.terms.specs.Extents.{Counted, Small};
 ghost use Rattle.terms.specs.Compare.{byteUnder};
-ghost use Rattle.positions.specs.Table.{pack, entryAt, coreAt, Core, Ranged, Known, Table, exactOf, termLayout, structLayout};
+ghost use Rattle.terms.specs.Heads.{headOf};
+ghost use Rattle.terms.specs.Extents.{Terms, Counted, Small};
+ghost use Rattle.positions.specs.Table.{coreNo, coreFrom, Fits, pack, entryAt, coreAt, Bare, Ends, CoreIs, Few, Ranged, Known, Table, exactOf, termLayout, structLayout, ownByte};
 ghost use Rattle.positions.specs.Positions.{Keeps, Agree, argByte, Found};
 ghost use Rattle.positions.specs.Distances.{Lower, ElementIs};
 use terms::Extent;
@@ -22,16 +23,45 @@ pub struct Primitive {
     pub to: [u8; 8],
 }
 
-// ---- the table
+// What is left of a term when arrays of one are taken off, and structs whose only field is a struct: the way to a primitive passes none of them.
+pub enum Core {
+    // the term at a place, which is no struct
+    Term(usize),
+    // the fields of a struct, for four regions, a byte of the number each
+    Fields(usize, usize),
+}
+
+// ---- entries
+
+// A core as a number, and back: places are at most 128, structs come behind them.
+fn core_no(core: Core) -> usize
+    requires { ⌜ Fits core ⌝ }
+    ensures { λ r. ⌜ r ≡ coreNo core ⌝ }
+{
+    match core {
+        Core::Term(c) => c,
+        Core::Fields(number, d) => 129 + number + 512 * d,
+    }
+}
+
+fn core_from(x: usize) -> Core
+    ensures { λ r. ⌜ r ≡ coreFrom x ⌝ }
+{
+    let low = x % 512;
+    if low < 129 {
+        return Core::Term(low);
+    }
+    Core::Fields(low - 129, x / 512)
+}
 
 // An extent and a core as one number of the table.
-fn entry(e: Extent, core: usize) -> u64
-    requires { ⌜ (Small e) × (core ≤ 128) ⌝ }
+fn entry(e: Extent, core: Core) -> u64
+    requires { ⌜ (Small e) × (Fits core) ⌝ }
     ensures { λ r. ⌜ r ≡ pack e core ⌝ }
 {
     let size = e.size;
     let count = e.count;
-    (size + 1024 * count + 1048576 * core) as u64
+    (size + 1024 * count + 1048576 * core_no(core)) as u64
 }
 
 // The extent at place p, from the table. Place 0 is i8.
@@ -52,61 +82,19 @@ pub fn extent_in(tab: &[u64], p: usize) -> Extent
     Extent { size: 0, count: 0 }
 }
 
-// The core of the term at place p, by place: what is left when arrays of one are taken off.
-pub fn core_in(tab: &[u64], p: usize) -> usize
+// The core of the term at place p, from the table.
+pub fn core_in(tab: &[u64], p: usize) -> Core
     ensures { λ r. ⌜ r ≡ coreAt (now (tab .entry)) p ⌝ }
 {
     if p == 0 {
-        return 0;
+        return Core::Term(0);
     }
     let t = p - 1;
     if t < tab.len() {
         let x = tab[t];
-        return (x / 1048576) as usize;
+        return core_from((x / 1048576) as usize);
     }
-    0
-}
-
-// The core of the term at place p, where those of lower places are in the table.
-fn core_of(f: &[u8], p: usize, tab: &[u64]) -> usize
-    requires { ⌜ ((q : ℕ) → q < p → Core (now f) q (coreAt (now tab) q)) ⌝ }
-    ensures { λ r. ⌜ Core (now (f .entry)) p r ⌝ }
-{
-    match terms::head_of(f, p) {
-        Head::Arr(n, a) => {
-            if n == 1 {
-                return core_in(tab, a);
-            }
-            p
-        }
-        Head::Int(_) => p,
-        Head::Ptr(_, _) => p,
-        Head::Struct(_, _, _) => p,
-    }
-}
-
-// The table of a file with n terms and k structs, whose records are in range.
-pub fn extents(f: &[u8], n: usize, k: usize) -> [u64; 128]
-    requires { ⌜ (Counted (now f) n k) × (Ranged (now f) n) ⌝ }
-    ensures { λ r. ⌜ Table (now (f .entry)) n k r ⌝ }
-{
-    let mut tab = [0u64; 128];
-    let mut t = 0;
-    while t < n {
-        let e = terms::term_extent(f, n, k, t + 1);
-        let c = core_of(f, t + 1, &tab);
-        tab[t] = entry(e, c);
-        t += 1;
-    }
-    tab
-}
-
-// Size and number of primitives of term t.
-pub fn extent_at(n: usize, t: usize, tab: &[u64], f: &[u8], k: usize) -> Extent
-    requires { ⌜ Table (now f) n k (now tab) ⌝ }
-    ensures { λ r. do let m = moduleOf (now (f .entry)) in ⌜ (r ≡ exactOf (flat m (m .term t))) × (Small r) ⌝ }
-{
-    extent_in(tab, terms::place_of(n, t))
+    Core::Term(0)
 }
 
 // ---- substitutions
@@ -124,22 +112,61 @@ fn argument(d: usize, count: usize, to: &[u8], j: usize) -> u8
 }
 
 // The substitution for the fields of a struct.
-pub fn arguments(d: usize, count: usize, to: &[u8]) -> [u8; 8]
-    requires { ⌜ count ≤ 8 ⌝ }
+fn four(d: usize, count: usize, to: &[u8]) -> [u8; 4]
+    requires { ⌜ count ≤ 4 ⌝ }
     ensures { λ r. ⌜ ((v : ℕ) → byteUnder r v ≡ argByte (now (to .entry)) d count v) ⌝ }
 {
-    if count == 0 {
-        return [255, 255, 255, 255, 255, 255, 255, 255];
-    }
     let a0 = argument(d, count, to, 0);
     let a1 = argument(d, count, to, 1);
     let a2 = argument(d, count, to, 2);
     let a3 = argument(d, count, to, 3);
-    let a4 = argument(d, count, to, 4);
-    let a5 = argument(d, count, to, 5);
-    let a6 = argument(d, count, to, 6);
-    let a7 = argument(d, count, to, 7);
-    [a0, a1, a2, a3, a4, a5, a6, a7]
+    [a0, a1, a2, a3]
+}
+
+// The same for four regions, held as eight.
+pub fn arguments(d: usize, to: &[u8]) -> [u8; 8]
+    ensures { λ r. ⌜ ((v : ℕ) → byteUnder r v ≡ argByte (now (to .entry)) d 4 v) ⌝ }
+{
+    let a0 = argument(d, 4, to, 0);
+    let a1 = argument(d, 4, to, 1);
+    let a2 = argument(d, 4, to, 2);
+    let a3 = argument(d, 4, to, 3);
+    [a0, a1, a2, a3, 255, 255, 255, 255]
+}
+
+// The byte for region j of a struct term whose number d holds `count` regions: 255 where there is none.
+fn own(d: usize, count: usize, j: usize) -> u8
+    requires { ⌜ d < 4294967296 ⌝ }
+    ensures { λ r. ⌜ r ≡ ownByte d count j ⌝ }
+{
+    if j < count {
+        terms::digit(d, j) as u8
+    } else {
+        255
+    }
+}
+
+// A struct term's own arguments.
+fn own_arguments(d: usize, count: usize) -> [u8; 4]
+    requires { ⌜ (count ≤ 4) × (d < 4294967296) ⌝ }
+    ensures { λ r. ⌜ ((v : ℕ) → byteUnder r v ≡ ownByte d count v) ⌝ }
+{
+    let a0 = own(d, count, 0);
+    let a1 = own(d, count, 1);
+    let a2 = own(d, count, 2);
+    let a3 = own(d, count, 3);
+    [a0, a1, a2, a3]
+}
+
+// Four regions as one number, a byte each.
+fn joined(to: [u8; 4]) -> usize
+    ensures { λ r. ⌜ (r < 4294967296) × ((v : ℕ) → byteUnder to v ≡ ownByte r 4 v) ⌝ }
+{
+    let a0 = terms::wide(to[0]);
+    let a1 = terms::wide(to[1]);
+    let a2 = terms::wide(to[2]);
+    let a3 = terms::wide(to[3]);
+    a0 + 256 * a1 + 65536 * a2 + 16777216 * a3
 }
 
 fn byte_or(to: &[u8], j: usize) -> u8
@@ -164,6 +191,101 @@ pub fn held(to: &[u8]) -> [u8; 8]
     [a0, a1, a2, a3, a4, a5, a6, a7]
 }
 
+// ---- cores
+
+// A struct, for four regions, a byte of the number each.
+struct Inner {
+    number: usize,
+    regions: usize,
+}
+
+// The term at place p with arrays of one taken off, by place.
+fn bare(f: &[u8], p: usize) -> usize
+    ensures { λ r. ⌜ Bare (now (f .entry)) p r ⌝ }
+{
+    match terms::head_of(f, p) {
+        Head::Arr(n, a) => {
+            if n == 1 {
+                return bare(f, a);
+            }
+            p
+        }
+        Head::Int(_) => p,
+        Head::Ptr(_, _) => p,
+        Head::Struct(_, _, _) => p,
+    }
+}
+
+// A struct under `to`, with structs whose only field is a struct taken off.
+fn innermost(f: &[u8], n: usize, number: usize, to: [u8; 4]) -> Inner
+    requires { ⌜ (number < 256) × (Keeps to) × (Terms (now f) n) × ((p : ℕ) → p ≤ n → Few (headOf (now f) p)) ⌝ }
+    ensures { λ r. ⌜ Ends (now (f .entry)) number to (r .number) (r .regions) ⌝ }
+{
+    let first = n + 2 * number;
+    let x = walk::file::record_at(f, first);
+    if x.b == 1 {
+        let y = walk::file::record_at(f, first + 1);
+        let q = bare(f, terms::place_of(n, walk::file::entry_of(y, 0)));
+        match terms::head_of(f, q) {
+            Head::Struct(inside, count, d) => {
+                if inside < number {
+                    return innermost(f, n, inside, four(d, count, &to));
+                }
+            }
+            Head::Int(_) => {}
+            Head::Ptr(_, _) => {}
+            Head::Arr(_, _) => {}
+        }
+    }
+    Inner {
+        number,
+        regions: joined(to),
+    }
+}
+
+// The core of the term at place p.
+fn core_of(f: &[u8], n: usize, p: usize) -> Core
+    requires { ⌜ (p ≤ n) × (Terms (now f) n) × ((q : ℕ) → q ≤ n → Few (headOf (now f) q)) ⌝ }
+    ensures { λ r. ⌜ CoreIs (now (f .entry)) p r ⌝ }
+{
+    let c = bare(f, p);
+    match terms::head_of(f, c) {
+        Head::Struct(number, count, d) => {
+            let x = innermost(f, n, number, own_arguments(d, count));
+            Core::Fields(x.number, x.regions)
+        }
+        Head::Int(_) => Core::Term(c),
+        Head::Ptr(_, _) => Core::Term(c),
+        Head::Arr(_, _) => Core::Term(c),
+    }
+}
+
+// ---- the table of a file
+
+// The table of a file with n terms and k structs, whose records are in range.
+pub fn extents(f: &[u8], n: usize, k: usize) -> [u64; 128]
+    requires { ⌜ (Counted (now f) n k) × (Ranged (now f) n) ⌝ }
+    ensures { λ r. ⌜ Table (now (f .entry)) n k r ⌝ }
+{
+    let mut tab = [0u64; 128];
+    let mut t = 0;
+    while t < n {
+        let e = terms::term_extent(f, n, k, t + 1);
+        let c = core_of(f, n, t + 1);
+        tab[t] = entry(e, c);
+        t += 1;
+    }
+    tab
+}
+
+// Size and number of primitives of term t.
+pub fn extent_at(n: usize, t: usize, tab: &[u64], f: &[u8], k: usize) -> Extent
+    requires { ⌜ Table (now f) n k (now tab) ⌝ }
+    ensures { λ r. do let m = moduleOf (now (f .entry)) in ⌜ (r ≡ exactOf (flat m (m .term t))) × (Small r) ⌝ }
+{
+    extent_in(tab, terms::place_of(n, t))
+}
+
 // ---- the primitive at a position: two functions in a cycle, as for sizes
 
 // Primitive i of the term at place p, which lies off bytes into something of at most 256.
@@ -180,26 +302,25 @@ fn term_prim(
     requires { do let L = termLayout (now f) k p in ⌜ (p ≤ n) × (off + L .size ≤ 256) × (i < count L) × (Keeps to) × (Known (now f) n k (now tab)) × (i < 256) ⌝ }
     ensures { λ r. ⌜ (Found (now (f .entry)) r to off (nth (termLayout (now (f .entry)) k p) i)) × (r .place ≤ n) × (r .off ≤ 256) ⌝ }
 {
-    match terms::head_of(f, p) {
-        Head::Arr(_, a) => {
-            let e = extent_in(tab, a);
-            let size = e.size;
-            let count = e.count;
-            if count == 0 {
-                return Primitive { off, place: p, to };
-            }
-            let c = core_in(tab, a);
-            term_prim(f, n, k, c, to, off + i / count * size, i % count, tab)
+    match core_in(tab, p) {
+        Core::Fields(number, d) => {
+            let inside = arguments(d, &to);
+            struct_prim(f, n, number, inside, off, i, tab)
         }
-        Head::Struct(number, count, d) => {
-            if number < k {
-                let inside = arguments(d, count, &to);
-                return struct_prim(f, n, number, inside, off, i, tab);
+        Core::Term(c) => match terms::head_of(f, c) {
+            Head::Arr(_, a) => {
+                let e = extent_in(tab, a);
+                let size = e.size;
+                let count = e.count;
+                if count == 0 {
+                    return Primitive { off, place: c, to };
+                }
+                term_prim(f, n, k, a, to, off + i / count * size, i % count, tab)
             }
-            Primitive { off, place: p, to }
-        }
-        Head::Int(_) => Primitive { off, place: p, to },
-        Head::Ptr(_, _) => Primitive { off, place: p, to },
+            Head::Int(_) => Primitive { off, place: c, to },
+            Head::Ptr(_, _) => Primitive { off, place: c, to },
+            Head::Struct(_, _, _) => Primitive { off, place: c, to },
+        },
     }
 }
 
@@ -227,8 +348,7 @@ fn struct_prim(
         let p = terms::place_of(n, walk::file::entry_of(y, j as usize));
         let e = extent_in(tab, p);
         if i < count + e.count {
-            let c = core_in(tab, p);
-            return term_prim(f, n, number, c, to, off + size, i - count, tab);
+            return term_prim(f, n, number, p, to, off + size, i - count, tab);
         }
         size = size + e.size;
         count = count + e.count;
@@ -250,8 +370,7 @@ pub fn place_prim(
     requires { ⌜ (Table (now f) n k (now tab)) × (p ≤ n) × (i < count (termLayout (now f) k p)) × (Keeps to) ⌝ }
     ensures { λ r. ⌜ (Found (now (f .entry)) r to 0 (nth (termLayout (now (f .entry)) k p) i)) × (r .place ≤ n) × (r .off ≤ 256) ⌝ }
 {
-    let c = core_in(tab, p);
-    term_prim(f, n, k, c, to, 0, i, tab)
+    term_prim(f, n, k, p, to, 0, i, tab)
 }
 
 // ---- positions by distance

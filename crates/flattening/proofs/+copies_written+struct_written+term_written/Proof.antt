@@ -3,21 +3,23 @@
 -- of it are one above, and a struct N lies between, at 2048 N + 1024. Assumes nothing.
 use Prim.Native.Nat.{ℕ, _+_, _*_, _-_, _≤_, _<_}
 use Rattle.rules.specs.File.{entryOf}
-use Rattle.rules.specs.Flat.{Layout, count, copiesOf}
-use Rattle.rules.specs.Types.{variable}
+use Rattle.rules.specs.Flat.{Layout, count, copiesOf, subLayout}
+use Rattle.rules.specs.Types.{variable, arg}
 use Rattle.rules.specs.declared.Record.{Record}
 use Rattle.layout.specs.Prims.{count-copiesOf, size-copiesOf}
 use Rattle.terms.specs.Extents.{fieldPlace, fieldCount, firsts}
 use Rattle.terms.specs.HeadLaws.{fair-at}
-use Rattle.terms.specs.Heads.{headOf, placeOf}
+use Rattle.terms.specs.Heads.{argsOf, headOf, placeOf}
 use Rattle.terms.specs.declared.Extent.{Extent}
 use Rattle.terms.specs.declared.Head.the-variants.{Arr}
 use Rattle.positions.specs.Positions.{Agree, keeps-args, single-int, single-ptr, struct-size, struct-count, arr-layout, before, field, struct-fields}
-use Rattle.positions.specs.Table.{termLayout, structLayout, Core, Few, exactOf}
+use Rattle.positions.specs.Table.{termLayout, structLayout, NoStruct, InStruct, CoreIs, exactOf}
 use Rattle.positions.specs.TableLaws.{known-less}
+use Rattle.positions.specs.declared.Core.{Core}
+use Rattle.positions.specs.declared.Core.the-variants.{Term}
 use Rattle.positions.specs.declared.Primitive.{Primitive}
 use Rattle.flattening.specs.Written.{Written, Kept, PastOf, Past}
-use Rattle.flattening.specs.Laws.{put-single, put-memo, past-later, past-kept, written-off, agree-written, put-written, put-kept, past-put, written-none, kept-none, written-same, copies-end, kept-kept, written-kept, written-first, written-copy, written-shifted, copy-room, copy-behind, written-struct, written-unknown, size-next, count-next, field-fits, field-room, written-field}
+use Rattle.flattening.specs.Laws.{put-single, put-memo, past-later, past-kept, written-off, agree-written, put-written, put-kept, past-put, written-none, kept-none, written-same, copies-end, kept-kept, written-kept, written-first, written-copy, written-shifted, copy-room, copy-behind, written-struct, size-next, count-next, field-fits, field-room, written-field}
 use borrow.Author.Needs.{needs}
 use denote.Ref.{now}
 use lib.ListN.{length}
@@ -87,7 +89,7 @@ struct-written-uses t = (entry-reads.Asked, entry-reads.Learnt, at-hand-reads.As
 
 -- what the callees of `term_written` ask and ensure, at the measure t
 abbrev term-written-uses : ℕ → term-written-lts.Claims
-term-written-uses t = (extent-in-reads.Asked, extent-in-reads.Learnt, core-in-reads.Asked, core-in-reads.Learnt, head-of-reads.Asked, head-of-reads.Learnt, copies-written-below t, copies-written.Post, arguments-reads.Asked, arguments-reads.Learnt, struct-written-below t, struct-written.Post, put-reads.Asked, put-reads.Learnt)
+term-written-uses t = (extent-in-reads.Asked, extent-in-reads.Learnt, core-in-reads.Asked, core-in-reads.Learnt, arguments-reads.Asked, arguments-reads.Learnt, struct-written-below t, struct-written.Post, head-of-reads.Asked, head-of-reads.Learnt, copies-written-below t, copies-written.Post, put-reads.Asked, put-reads.Learnt)
 
 abbrev copies-written-Inv-loop : copies-written-lts.InvT-loop
 copies-written-Inv-loop f n k a off many subs₀ spots₀ at tab size count h₀ subs spots h =
@@ -398,47 +400,58 @@ struct-written-returns-2 t c =
       past-put (a .number) (a .at) (a .to) (a .off) (a .at + count L) (a .off + L .size) (l .inv .4 .room) (end-past t (c .before .before .before)) w (q .0) fits (omega arith) (q .2) (omega arith) (c .put .ensures .0) (c .put .ensures .1),
     )
 
--- What is known of a term once its core is read, in plain names.
-module _ (t : ℕ) (c : term-written-lts.After-core-in (term-written-uses t) (term-written-at t) term-written.Post) where
+-- What is known of a term whose core is a struct, in plain names.
+module _ (t : ℕ) (c : term-written-lts.After-number (term-written-uses t) (term-written-at t) term-written.Post) where
+  str-core : InStruct (now (c .before .before .before .before .before .before .before .args .f)) (c .before .before .before .before .before .before .before .args .p) (c .number .given .0 .0) (c .number .given .0 .1 .0)
+  str-core = subst (λ (x : Core). CoreIs (now (c .before .before .before .before .before .before .before .args .f)) (c .before .before .before .before .before .before .before .args .p) x) (sym (c .before .before .core-in .ensures) ∙ c .number .given .1) (c .before .before .before .before .before .before .before .pre .1 .4 .cores (c .before .before .before .before .before .before .before .args .p) (c .before .before .before .before .before .before .before .pre .1 .0))
+
+  str-fits : termLayout (now (c .before .before .before .before .before .before .before .args .f)) (c .before .before .before .before .before .before .before .args .k) (c .before .before .before .before .before .before .before .args .p) .size ≤ 256
+  str-fits = let l = c .before .before .before .before .before .before .before .pre .1 .1 in omega arith
+
+  str-is : termLayout (now (c .before .before .before .before .before .before .before .args .f)) (c .before .before .before .before .before .before .before .args .k) (c .before .before .before .before .before .before .before .args .p) ≡ subLayout (arg (argsOf (c .number .given .0 .1 .0) 4)) (structLayout (now (c .before .before .before .before .before .before .before .args .f)) (c .number .given .0 .0))
+  str-is = str-core .same (c .before .before .before .before .before .before .before .args .k) str-fits
+
+  str-all : c .before .before .before .before .extent-in .result .count ≡ count (termLayout (now (c .before .before .before .before .before .before .before .args .f)) (c .before .before .before .before .before .before .before .args .k) (c .before .before .before .before .before .before .before .args .p))
+  str-all = ap (λ (x : Extent). x .count) (c .before .before .before .before .extent-in .ensures ∙ c .before .before .before .before .before .before .before .pre .1 .4 .entries (c .before .before .before .before .before .before .before .args .p) (c .before .before .before .before .before .before .before .pre .1 .0) str-fits)
+
+-- and of one whose core is the term at a place
+module _ (t : ℕ) (c : term-written-lts.After-head-of (term-written-uses t) (term-written-at t) term-written.Post) where
   abbrev trm-f : List ℕ
-  trm-f = now (c .before .before .before .before .before .args .f)
+  trm-f = now (c .before .before .before .before .before .before .before .before .before .args .f)
 
   abbrev trm-k : ℕ
-  trm-k = c .before .before .before .before .before .args .k
+  trm-k = c .before .before .before .before .before .before .before .before .before .args .k
 
   abbrev trm-p : ℕ
-  trm-p = c .core-in .result
+  trm-p = c .before .before .c .given .0 .0
 
-  trm-core : Core trm-f (c .before .before .before .before .before .args .p) trm-p
-  trm-core = subst (λ (x : ℕ). Core trm-f (c .before .before .before .before .before .args .p) x) (sym (c .core-in .ensures)) (c .before .before .before .before .before .pre .1 .4 .cores (c .before .before .before .before .before .args .p) (c .before .before .before .before .before .pre .1 .0))
+  trm-core : CoreIs trm-f (c .before .before .before .before .before .before .before .before .before .args .p) (Term trm-p)
+  trm-core = subst (λ (x : Core). CoreIs trm-f (c .before .before .before .before .before .before .before .before .before .args .p) x) (sym (c .before .before .before .before .core-in .ensures) ∙ c .before .before .c .given .1) (c .before .before .before .before .before .before .before .before .before .pre .1 .4 .cores (c .before .before .before .before .before .before .before .before .before .args .p) (c .before .before .before .before .before .before .before .before .before .pre .1 .0))
 
-  trm-low : trm-p ≤ c .before .before .before .before .before .args .n
-  trm-low = let l = trm-core .low in omega (arith, c .before .before .before .before .before .pre .1 .0)
+  trm-low : trm-p ≤ c .before .before .before .before .before .before .before .before .before .args .n
+  trm-low = let l = trm-core .0 .low in omega (arith, c .before .before .before .before .before .before .before .before .before .pre .1 .0)
 
-  trm-same : termLayout trm-f trm-k (c .before .before .before .before .before .args .p) ≡ termLayout trm-f trm-k trm-p
-  trm-same = trm-core .same trm-k (let l = c .before .before .before .before .before .pre .1 .1 in omega arith)
+  trm-same : termLayout trm-f trm-k (c .before .before .before .before .before .before .before .before .before .args .p) ≡ termLayout trm-f trm-k trm-p
+  trm-same = trm-core .0 .same trm-k (let l = c .before .before .before .before .before .before .before .before .before .pre .1 .1 in omega arith)
 
-  trm-fits : c .before .before .before .before .before .args .off + termLayout trm-f trm-k trm-p .size ≤ 256
-  trm-fits = subst (λ (L : Layout variable). c .before .before .before .before .before .args .off + L .size ≤ 256) trm-same (c .before .before .before .before .before .pre .1 .1)
+  trm-fits : c .before .before .before .before .before .before .before .before .before .args .off + termLayout trm-f trm-k trm-p .size ≤ 256
+  trm-fits = subst (λ (L : Layout variable). c .before .before .before .before .before .before .before .before .before .args .off + L .size ≤ 256) trm-same (c .before .before .before .before .before .before .before .before .before .pre .1 .1)
 
-  trm-room : c .before .before .before .before .before .args .at + count (termLayout trm-f trm-k trm-p) ≤ 256
-  trm-room = subst (λ (L : Layout variable). c .before .before .before .before .before .args .at + count L ≤ 256) trm-same (c .before .before .before .before .before .pre .1 .2)
-
-  trm-all : c .before .before .extent-in .result .count ≡ count (termLayout trm-f trm-k trm-p)
-  trm-all =
-      ap (λ (x : Extent). x .count) (c .before .before .extent-in .ensures ∙ c .before .before .before .before .before .pre .1 .4 .entries (c .before .before .before .before .before .args .p) (c .before .before .before .before .before .pre .1 .0) (let l = c .before .before .before .before .before .pre .1 .1 in omega arith))
-      ∙ ap (λ (L : Layout variable). count L) trm-same
+  trm-room : c .before .before .before .before .before .before .before .before .before .args .at + count (termLayout trm-f trm-k trm-p) ≤ 256
+  trm-room = subst (λ (L : Layout variable). c .before .before .before .before .before .before .before .before .before .args .at + count L ≤ 256) trm-same (c .before .before .before .before .before .before .before .before .before .pre .1 .2)
 
   trm-some : 0 < count (termLayout trm-f trm-k trm-p)
-  trm-some = let e = trm-all in let z = c .before .if1 .left in omega arith
+  trm-some =
+      let e = ap (λ (x : Extent). x .count) (c .before .before .before .before .before .before .extent-in .ensures ∙ c .before .before .before .before .before .before .before .before .before .pre .1 .4 .entries (c .before .before .before .before .before .before .before .before .before .args .p) (c .before .before .before .before .before .before .before .before .before .pre .1 .0) (let l = c .before .before .before .before .before .before .before .before .before .pre .1 .1 in omega arith)) ∙ ap (λ (L : Layout variable). count L) trm-same in
+      let z = c .before .before .before .before .before .if1 .left in omega arith
 
--- of an array
+-- which is an array
 module _ (t : ℕ) (c : term-written-lts.After-many (term-written-uses t) (term-written-at t) term-written.Post) where
-  arr-head : headOf (trm-f t (c .before .before .before)) (trm-p t (c .before .before .before)) ≡ Arr (c .many .given .0 .0) (c .many .given .0 .1 .0)
+  arr-head : headOf (trm-f t (c .before .before)) (trm-p t (c .before .before)) ≡ Arr (c .many .given .0 .0) (c .many .given .0 .1 .0)
   arr-head = sym (c .before .before .head-of .ensures .0) ∙ c .many .given .1
 
-  arr-is : termLayout (trm-f t (c .before .before .before)) (trm-k t (c .before .before .before)) (trm-p t (c .before .before .before)) ≡ copiesOf (c .many .given .0 .0) (termLayout (trm-f t (c .before .before .before)) (trm-k t (c .before .before .before)) (c .many .given .0 .1 .0))
-  arr-is = arr-layout (trm-f t (c .before .before .before)) (trm-k t (c .before .before .before)) (trm-p t (c .before .before .before)) (c .before .before .before .before .before .before .before .before .args .off) 0 (c .before .before .before .before .before .before .before .before .args .t5) _ _ arr-head (trm-fits t (c .before .before .before)) (trm-some t (c .before .before .before))
+  arr-is : termLayout (trm-f t (c .before .before)) (trm-k t (c .before .before)) (trm-p t (c .before .before)) ≡ copiesOf (c .many .given .0 .0) (termLayout (trm-f t (c .before .before)) (trm-k t (c .before .before)) (c .many .given .0 .1 .0))
+  arr-is = arr-layout (trm-f t (c .before .before)) (trm-k t (c .before .before)) (trm-p t (c .before .before)) (c .before .before .before .before .before .before .before .before .before .before .before .args .off) 0 (c .before .before .before .before .before .before .before .before .before .before .before .args .t5) _ _ arr-head (trm-fits t (c .before .before)) (trm-some t (c .before .before))
 
 term-written-returns : (t : ℕ) → term-written-lts.Need-returns (term-written-uses t) (term-written-at t) term-written.Post
 term-written-returns t c =
@@ -446,105 +459,93 @@ term-written-returns t c =
     let e = ap (λ (x : Extent). x .count) (c .before .extent-in .ensures ∙ c .before .before .before .before .pre .1 .4 .entries (a .p) (c .before .before .before .before .pre .1 .0) (let l = c .before .before .before .before .pre .1 .1 in omega arith)) in
     (written-none (termLayout (now (a .f)) (a .k) (a .p)) (sym e ∙ c .if1 .taken), kept-none (a .at) (c .before .before .before .before .pre .1 .5), past-later (a .at) (a .off) (c .before .before .before .before .pre .1 .7) (omega arith) (omega arith))
 
+term-written-struct-written-requires : (t : ℕ) → term-written-lts.Need-struct-written-requires (term-written-uses t) (term-written-at t) term-written.Post
+term-written-struct-written-requires t c κs =
+    let a = c .before .before .before .before .before .before .before .before .before .before .before .before .args in
+    let q = c .before .before .before .before .before .before .before .before .before .before .before .before .pre in
+    let x = c .before .before .before .before .before in
+    let s = struct-size (now (a .f)) (a .k) (a .p) (a .off) 0 (a .t5) _ 4 _ (str-is t x) in
+    let m = struct-count (now (a .f)) (a .k) (a .p) (a .off) 0 (a .t5) _ 4 _ (str-is t x) in
+    let less = str-core t x .known (a .k) (str-fits t x) in
+    let some = c .before .before .before .before .before .before .before .before .if1 .left in (
+      omega (arith, q .0),
+      (
+        omega (arith, q .1 .6),
+        omega (arith, q .1 .1),
+        omega (arith, q .1 .2),
+        keeps-args (a .t5) (c .before .before .arguments .result) _ 4 (omega arith) (c .before .before .arguments .ensures),
+        known-less (now (a .f)) (a .n) _ (a .k) (now (a .tab)) (omega arith) (q .1 .4),
+        q .1 .5,
+        q .1 .7,
+        str-all t x ∙ sym m,
+        omega arith,
+      ),
+    )
+
 term-written-copies-written-requires : (t : ℕ) → term-written-lts.Need-copies-written-requires (term-written-uses t) (term-written-at t) term-written.Post
 term-written-copies-written-requires t c κs =
-    let q = c .before .before .before .before .before .before .before .before .before .before .before .pre in
-    let L = termLayout (trm-f t (c .before .before .before .before .before .before)) (trm-k t (c .before .before .before .before .before .before)) (c .before .before .before .many .given .0 .1 .0) in
+    let q = c .before .before .before .before .before .before .before .before .before .before .before .before .before .before .pre in
+    let L = termLayout (trm-f t (c .before .before .before .before .before)) (trm-k t (c .before .before .before .before .before)) (c .before .before .before .many .given .0 .1 .0) in
     let n = c .before .before .before .many .given .0 .0 in
     let e = arr-is t (c .before .before .before) in
     let s = ap (λ (M : Layout variable). M .size) e in
     let m = ap (λ (M : Layout variable). count M) e in
-    let l = fair-at (trm-p t (c .before .before .before .before .before .before)) _ _ (c .before .before .before .before .before .head-of .ensures .1) (c .before .before .before .many .given .1) .0 in
-    let w = trm-core t (c .before .before .before .before .before .before) .low in (
+    let l = fair-at (trm-p t (c .before .before .before .before .before)) _ _ (c .before .before .before .before .before .head-of .ensures .1) (c .before .before .before .many .given .1) .0 in
+    let w = trm-core t (c .before .before .before .before .before) .0 .low in (
       omega (arith, q .0),
-      (omega (arith, q .1 .0), omega (arith, trm-fits t (c .before .before .before .before .before .before), size-copiesOf n L), omega (arith, trm-room t (c .before .before .before .before .before .before), count-copiesOf n L), q .1 .3, q .1 .4, q .1 .5, q .1 .6, q .1 .7),
+      (omega (arith, q .1 .0), omega (arith, trm-fits t (c .before .before .before .before .before), size-copiesOf n L), omega (arith, trm-room t (c .before .before .before .before .before), count-copiesOf n L), q .1 .3, q .1 .4, q .1 .5, q .1 .6, q .1 .7),
     )
 
 term-written-returns-2 : (t : ℕ) → term-written-lts.Need-returns-2 (term-written-uses t) (term-written-at t) term-written.Post
-term-written-returns-2 t c = (
-  written-same (sym (trm-same t (c .before .before .before .before .before .before .before) ∙ arr-is t (c .before .before .before .before))) (c .copies-written .ensures .0),
-  c .copies-written .ensures .1,
-  (let e = trm-same t (c .before .before .before .before .before .before .before) ∙ arr-is t (c .before .before .before .before) in
-      let n = c .before .before .before .before .many .given .0 .0 in
-      let L = termLayout (trm-f t (c .before .before .before .before .before .before .before)) (trm-k t (c .before .before .before .before .before .before .before)) (c .before .before .before .before .many .given .0 .1 .0) in
-      past-later (c .before .before .before .before .before .before .before .before .before .before .before .before .args .at + n * count L) (c .before .before .before .before .before .before .before .before .before .before .before .before .args .off + n * L .size) (c .copies-written .ensures .2)
-      (omega (arith, ap (λ (M : Layout variable). count M) e, count-copiesOf n L)) (omega (arith, ap (λ (M : Layout variable). M .size) e, size-copiesOf n L))),
-)
-
-term-written-arguments-requires : (t : ℕ) → term-written-lts.Need-arguments-requires (term-written-uses t) (term-written-at t) term-written.Post
-term-written-arguments-requires t c κs = subst Few (sym (c .before .before .before .before .before .head-of .ensures .0) ∙ c .before .before .before .number .given .1) (c .before .before .before .before .before .before .before .before .before .before .before .pre .1 .4 .few (trm-p t (c .before .before .before .before .before .before)) (trm-low t (c .before .before .before .before .before .before)))
-
-term-written-struct-written-requires : (t : ℕ) → term-written-lts.Need-struct-written-requires (term-written-uses t) (term-written-at t) term-written.Post
-term-written-struct-written-requires t c κs =
-    let a = c .before .before .before .before .before .before .before .before .before .before .before .before .before .before .args in
-    let q = c .before .before .before .before .before .before .before .before .before .before .before .before .before .before .pre in
-    let x = c .before .before .before .before .before .before .before .before .before in
-    let head = sym (c .before .before .before .before .before .before .before .before .head-of .ensures .0) ∙ c .before .before .before .before .before .before .number .given .1 in
-    let l = c .before .before .before .before .if2 .taken in
-    let s = struct-size (now (a .f)) (a .k) (trm-p t x) (a .off) 0 (a .t5) _ _ _ head l in
-    let m = struct-count (now (a .f)) (a .k) (trm-p t x) (a .off) 0 (a .t5) _ _ _ head l in
-    let w = fair-at (trm-p t x) _ _ (c .before .before .before .before .before .before .before .before .head-of .ensures .1) (c .before .before .before .before .before .before .number .given .1) .0 in (
-      omega (arith, q .0),
-      (
-        omega (arith, q .1 .6),
-        omega (arith, trm-fits t x),
-        omega (arith, trm-room t x),
-        keeps-args (a .t5) (c .before .before .arguments .result) _ _ (subst Few head (q .1 .4 .few (trm-p t x) (trm-low t x))) (c .before .before .arguments .ensures),
-        known-less (now (a .f)) (a .n) _ (a .k) (now (a .tab)) (omega arith) (q .1 .4),
-        q .1 .5,
-        q .1 .7,
-        trm-all t x ∙ sym m,
-        (let z = trm-some t x in omega (arith, trm-all t x)),
-      ),
+term-written-returns-2 t c =
+    let a = c .before .before .before .before .before .before .before .before .before .before .before .before .before .args in
+    let x = c .before .before .before .before .before .before in (
+      written-struct (a .k) (a .p) _ 4 _ (str-is t x) (c .before .before .before .arguments .result) (c .before .before .before .before .before .before .before .before .before .before .before .before .before .pre .1 .3) (c .before .before .before .arguments .ensures) (c .struct-written .ensures .0),
+      c .struct-written .ensures .1,
+      (let s = struct-size (now (a .f)) (a .k) (a .p) (a .off) 0 (a .t5) _ 4 _ (str-is t x) in
+          let m = struct-count (now (a .f)) (a .k) (a .p) (a .off) 0 (a .t5) _ 4 _ (str-is t x) in
+          past-later _ _ (c .struct-written .ensures .2) (omega (arith, m)) (omega (arith, s))),
     )
 
 term-written-returns-3 : (t : ℕ) → term-written-lts.Need-returns-3 (term-written-uses t) (term-written-at t) term-written.Post
-term-written-returns-3 t c =
-    let a = c .before .before .before .before .before .before .before .before .before .before .before .before .before .before .before .args in
-    let x = c .before .before .before .before .before .before .before .before .before .before in
-    let head = sym (c .before .before .before .before .before .before .before .before .before .head-of .ensures .0) ∙ c .before .before .before .before .before .before .before .number .given .1 in
-    let l = c .before .before .before .before .before .if2 .taken in (
-      written-same (sym (trm-same t x))
-          (written-struct (a .k) (trm-p t x) _ _ _ head l (c .before .before .before .arguments .result) (c .before .before .before .before .before .before .before .before .before .before .before .before .before .before .before .pre .1 .3) (c .before .before .before .arguments .ensures) (c .struct-written .ensures .0)),
-      c .struct-written .ensures .1,
-      (let s = struct-size (now (a .f)) (a .k) (trm-p t x) (a .off) 0 (a .t5) _ _ _ head l in
-          let m = struct-count (now (a .f)) (a .k) (trm-p t x) (a .off) 0 (a .t5) _ _ _ head l in
-          past-later _ _ (c .struct-written .ensures .2) (omega (arith, m, ap (λ (M : Layout variable). count M) (trm-same t x))) (omega (arith, s, ap (λ (M : Layout variable). M .size) (trm-same t x)))),
-    )
-
-term-written-returns-4 : (t : ℕ) → term-written-lts.Need-returns-4 (term-written-uses t) (term-written-at t) term-written.Post
-term-written-returns-4 t c =
-    let a = c .before .before .before .before .before .before .before .before .before .before .args in (
-      written-same (sym (trm-same t (c .before .before .before .before .before))) (written-unknown (a .k) (trm-p t (c .before .before .before .before .before)) _ _ _ (sym (c .before .before .before .before .head-of .ensures .0) ∙ c .before .before .number .given .1) (c .if2 .left)),
-      kept-none (a .at) (c .before .before .before .before .before .before .before .before .before .before .pre .1 .5),
-      past-later (a .at) (a .off) (c .before .before .before .before .before .before .before .before .before .before .pre .1 .7) (omega arith) (omega arith),
-    )
+term-written-returns-3 t c = (
+  written-same (sym (trm-same t (c .before .before .before .before .before .before) ∙ arr-is t (c .before .before .before .before))) (c .copies-written .ensures .0),
+  c .copies-written .ensures .1,
+  (let e = trm-same t (c .before .before .before .before .before .before) ∙ arr-is t (c .before .before .before .before) in
+      let n = c .before .before .before .before .many .given .0 .0 in
+      let L = termLayout (trm-f t (c .before .before .before .before .before .before)) (trm-k t (c .before .before .before .before .before .before)) (c .before .before .before .before .many .given .0 .1 .0) in
+      past-later (c .before .before .before .before .before .before .before .before .before .before .before .before .before .before .before .args .at + n * count L) (c .before .before .before .before .before .before .before .before .before .before .before .before .before .before .before .args .off + n * L .size) (c .copies-written .ensures .2)
+      (omega (arith, ap (λ (M : Layout variable). count M) e, count-copiesOf n L)) (omega (arith, ap (λ (M : Layout variable). M .size) e, size-copiesOf n L))),
+)
 
 term-written-put-requires : (t : ℕ) → term-written-lts.Need-put-requires (term-written-uses t) (term-written-at t) term-written.Post
 term-written-put-requires t c κs =
-    let x = c .before .before .before .before .before in
-    (omega (arith, trm-room t x, trm-some t x), omega (arith, trm-low t x, c .before .before .before .before .before .before .before .before .before .before .pre .1 .4 .terms .few), omega (arith, trm-fits t x))
+    let x = c .before .before .before .before in
+    (omega (arith, trm-room t x, trm-some t x), omega (arith, trm-low t x, c .before .before .before .before .before .before .before .before .before .before .before .before .before .pre .1 .4 .terms .few), omega (arith, trm-fits t x))
 
 term-written-put-requires-2 : (t : ℕ) → term-written-lts.Need-put-requires-2 (term-written-uses t) (term-written-at t) term-written.Post
 term-written-put-requires-2 t c κs =
+    let x = c .before .before .before .before in
+    (omega (arith, trm-room t x, trm-some t x), omega (arith, trm-low t x, c .before .before .before .before .before .before .before .before .before .before .before .before .before .pre .1 .4 .terms .few), omega (arith, trm-fits t x))
+
+term-written-returns-4 : (t : ℕ) → term-written-lts.Need-returns-4 (term-written-uses t) (term-written-at t) term-written.Post
+term-written-returns-4 t c =
+    let a = c .before .before .before .before .before .before .before .before .before .before .before .before .before .before .args in
     let x = c .before .before .before .before .before in
-    (omega (arith, trm-room t x, trm-some t x), omega (arith, trm-low t x, c .before .before .before .before .before .before .before .before .before .before .pre .1 .4 .terms .few), omega (arith, trm-fits t x))
+    let w = put-single (c .before .before .before .before .before .before .before .before .before .before .before .before .before .before .pre .1 .5) (a .at) (trm-p t x) (a .t5) (a .off) (omega (arith, trm-room t x, trm-some t x)) (omega (arith, trm-fits t x)) (now (a .f)) (a .k) _ (omega (arith, trm-low t x, c .before .before .before .before .before .before .before .before .before .before .before .before .before .before .pre .1 .4 .terms .few))
+    (single-int (now (a .f)) (a .k) (trm-p t x) (a .off) 0 (a .t5) _ (sym (c .before .before .before .before .before .head-of .ensures .0) ∙ c .before .before .before .enum-told .given .1)) (c .put .ensures .0) (c .put .ensures .1) in
+    (written-same (sym (trm-same t x)) (w .0), w .1, past-later (a .at) (a .off) (past-kept (a .at) (a .off) (c .before .before .before .before .before .before .before .before .before .before .before .before .before .before .pre .1 .7) (w .1) (omega arith) (put-memo (c .before .before .before .before .before .before .before .before .before .before .before .before .before .before .pre .1 .5) (a .at) (trm-p t x) (a .t5) (a .off) (let z = trm-some t x in omega (arith, trm-room t x)) (omega (arith, trm-fits t x)) (let z = trm-some t x in omega (arith, trm-room t x)) (c .put .ensures .0) (c .put .ensures .1))) (omega arith) (omega arith))
 
 term-written-returns-5 : (t : ℕ) → term-written-lts.Need-returns-5 (term-written-uses t) (term-written-at t) term-written.Post
 term-written-returns-5 t c =
-    let a = c .before .before .before .before .before .before .before .before .before .before .before .args in
-    let x = c .before .before .before .before .before .before in
-    let w = put-single (c .before .before .before .before .before .before .before .before .before .before .before .pre .1 .5) (a .at) (trm-p t x) (a .t5) (a .off) (omega (arith, trm-room t x, trm-some t x)) (omega (arith, trm-fits t x)) (now (a .f)) (a .k) _ (omega (arith, trm-low t x, c .before .before .before .before .before .before .before .before .before .before .before .pre .1 .4 .terms .few))
-    (single-int (now (a .f)) (a .k) (trm-p t x) (a .off) 0 (a .t5) _ (sym (c .before .before .before .before .before .head-of .ensures .0) ∙ c .before .before .before .enum-told .given .1)) (c .put .ensures .0) (c .put .ensures .1) in
-    (written-same (sym (trm-same t x)) (w .0), w .1, past-later (a .at) (a .off) (past-kept (a .at) (a .off) (c .before .before .before .before .before .before .before .before .before .before .before .pre .1 .7) (w .1) (omega arith) (put-memo (c .before .before .before .before .before .before .before .before .before .before .before .pre .1 .5) (a .at) (trm-p t x) (a .t5) (a .off) (let z = trm-some t x in omega (arith, trm-room t x)) (omega (arith, trm-fits t x)) (let z = trm-some t x in omega (arith, trm-room t x)) (c .put .ensures .0) (c .put .ensures .1))) (omega arith) (omega arith))
+    let a = c .before .before .before .before .before .before .before .before .before .before .before .before .before .before .args in
+    let x = c .before .before .before .before .before in
+    let w = put-single (c .before .before .before .before .before .before .before .before .before .before .before .before .before .before .pre .1 .5) (a .at) (trm-p t x) (a .t5) (a .off) (omega (arith, trm-room t x, trm-some t x)) (omega (arith, trm-fits t x)) (now (a .f)) (a .k) _ (omega (arith, trm-low t x, c .before .before .before .before .before .before .before .before .before .before .before .before .before .before .pre .1 .4 .terms .few))
+    (single-ptr (now (a .f)) (a .k) (trm-p t x) (a .off) 0 (a .t5) _ _ (sym (c .before .before .before .before .before .head-of .ensures .0) ∙ c .before .before .before .enum-told2 .given .1)) (c .put2 .ensures .0) (c .put2 .ensures .1) in
+    (written-same (sym (trm-same t x)) (w .0), w .1, past-later (a .at) (a .off) (past-kept (a .at) (a .off) (c .before .before .before .before .before .before .before .before .before .before .before .before .before .before .pre .1 .7) (w .1) (omega arith) (put-memo (c .before .before .before .before .before .before .before .before .before .before .before .before .before .before .pre .1 .5) (a .at) (trm-p t x) (a .t5) (a .off) (let z = trm-some t x in omega (arith, trm-room t x)) (omega (arith, trm-fits t x)) (let z = trm-some t x in omega (arith, trm-room t x)) (c .put2 .ensures .0) (c .put2 .ensures .1))) (omega arith) (omega arith))
 
 term-written-returns-6 : (t : ℕ) → term-written-lts.Need-returns-6 (term-written-uses t) (term-written-at t) term-written.Post
-term-written-returns-6 t c =
-    let a = c .before .before .before .before .before .before .before .before .before .before .before .args in
-    let x = c .before .before .before .before .before .before in
-    let w = put-single (c .before .before .before .before .before .before .before .before .before .before .before .pre .1 .5) (a .at) (trm-p t x) (a .t5) (a .off) (omega (arith, trm-room t x, trm-some t x)) (omega (arith, trm-fits t x)) (now (a .f)) (a .k) _ (omega (arith, trm-low t x, c .before .before .before .before .before .before .before .before .before .before .before .pre .1 .4 .terms .few))
-    (single-ptr (now (a .f)) (a .k) (trm-p t x) (a .off) 0 (a .t5) _ _ (sym (c .before .before .before .before .before .head-of .ensures .0) ∙ c .before .before .before .enum-told2 .given .1)) (c .put2 .ensures .0) (c .put2 .ensures .1) in
-    (written-same (sym (trm-same t x)) (w .0), w .1, past-later (a .at) (a .off) (past-kept (a .at) (a .off) (c .before .before .before .before .before .before .before .before .before .before .before .pre .1 .7) (w .1) (omega arith) (put-memo (c .before .before .before .before .before .before .before .before .before .before .before .pre .1 .5) (a .at) (trm-p t x) (a .t5) (a .off) (let z = trm-some t x in omega (arith, trm-room t x)) (omega (arith, trm-fits t x)) (let z = trm-some t x in omega (arith, trm-room t x)) (c .put2 .ensures .0) (c .put2 .ensures .1))) (omega arith) (omega arith))
+term-written-returns-6 t c = absurd (subst NoStruct (sym (c .before .before .head-of .ensures .0) ∙ c .enum-told3 .given .1) (trm-core t (c .before .before) .1))
 
 pub +copies-written+struct-written+term-written-spec : {M : Type 1} → statement M
 +copies-written+struct-written+term-written-spec =
@@ -605,17 +606,19 @@ pub +copies-written+struct-written+term-written-spec : {M : Type 1} → statemen
     (λ c κs. search needs)
     (term-written-returns t)
     (λ c κs. search needs)
+    (λ c. search needs)
+    (λ c. search needs)
+    (λ c κs. search needs)
+    (term-written-struct-written-requires t)
+    (λ c. search needs)
     (λ c κs. search needs)
     (λ c. search needs)
     (term-written-copies-written-requires t)
     (λ c. search needs)
-    (λ c. search needs)
-    (term-written-arguments-requires t)
-    (term-written-struct-written-requires t)
-    (λ c. search needs)
     (term-written-put-requires t)
     (λ c. search needs)
     (term-written-put-requires-2 t)
+    (λ c. search needs)
     (term-written-returns-2 t)
     (term-written-returns-3 t)
     (term-written-returns-4 t)

@@ -1,15 +1,21 @@
 -- The cycle of primitives, as that of sizes: `term_prim` at (k, p) asks `struct_prim` for structs below k and itself for lower
 -- places; `struct_prim` asks for terms with the structs below it. So 1024 k + p falls for a term, and a struct N lies between, at
 -- 1024 N + 512. Assumes nothing.
-use Prim.Native.Nat.{_+_, _*_, _-_, _/_, _≤_}
+use Prim.Native.Nat.{ℕ, _+_, _*_, _-_, _/_, _≤_, _<_}
 use Rattle.rules.specs.File.{entryOf}
+use Rattle.rules.specs.Flat.{Layout, count, subLayout}
+use Rattle.rules.specs.Types.{variable, arg}
 use Rattle.rules.specs.declared.Record.{Record}
-use Rattle.positions.specs.Positions.{keeps-args, found-single, single-int, single-ptr, struct-none, struct-size, struct-count, found-struct, element-fits, element-some, core-inside, core-fits, offset-le, found-arr, before, field, fields-end, field-fits, size-next, count-next, sums-small, field-inside, core-in-field, found-field}
-use Rattle.positions.specs.Table.{termLayout, Core, Few, exactOf}
+use Rattle.layout.specs.Prims.{nth}
+use Rattle.positions.specs.Positions.{Found, keeps-args, found-single, single-int, single-ptr, struct-size, struct-count, found-struct, element-fits, element-some, element-inside, element-room, offset-le, found-arr, before, field, fields-end, field-fits, size-next, count-next, sums-small, field-inside, in-field, found-field}
+use Rattle.positions.specs.Table.{termLayout, structLayout, NoStruct, InStruct, CoreIs, exactOf}
 use Rattle.positions.specs.TableLaws.{known-less, extent-small}
+use Rattle.positions.specs.declared.Core.{Core}
+use Rattle.positions.specs.declared.Core.the-variants.{Term}
+use Rattle.positions.specs.declared.Primitive.{Primitive}
 use Rattle.terms.specs.Extents.{fieldPlace, fieldCount, firsts}
 use Rattle.terms.specs.HeadLaws.{fair-at}
-use Rattle.terms.specs.Heads.{headOf, placeOf}
+use Rattle.terms.specs.Heads.{argsOf, headOf, placeOf}
 use Rattle.terms.specs.declared.Extent.{Extent}
 use Rattle.terms.specs.declared.Head.the-variants.{Arr}
 use borrow.Author.Needs.{needs}
@@ -20,7 +26,6 @@ use mathlib.Core.Path.{_≡_, refl, sym, ap, _∙_, subst}
 use native.Mathlib.Nat.{div-add-mod'}
 use native.Mathlib.Numerals.{add-one}
 use native.Mathlib.Omega.{arith}
-use Prim.Native.Nat.{ℕ, _<_}
 use borrow.Fn.Kinds.{In}
 use borrow.Fn.PlainCycle.{Measures, is, falls, and}
 use Rattle.positions.proofs.struct_prim.Reads as struct-prim
@@ -68,54 +73,77 @@ struct-prim-μ-loop f n number to off i tab first y fields size₀ count₀ j₀
 
 -- what the callees of `struct_prim` ask and ensure, at the measure t
 abbrev struct-prim-uses : ℕ → struct-prim-lts.Claims
-struct-prim-uses t = (record-at-reads.Asked, record-at-reads.Learnt, entry-of-reads.Asked, entry-of-reads.Learnt, place-of-reads.Asked, place-of-reads.Learnt, extent-in-reads.Asked, extent-in-reads.Learnt, core-in-reads.Asked, core-in-reads.Learnt, term-prim-below t, term-prim.Post)
+struct-prim-uses t = (record-at-reads.Asked, record-at-reads.Learnt, entry-of-reads.Asked, entry-of-reads.Learnt, place-of-reads.Asked, place-of-reads.Learnt, extent-in-reads.Asked, extent-in-reads.Learnt, term-prim-below t, term-prim.Post)
 
 -- what the callees of `term_prim` ask and ensure, at the measure t
 abbrev term-prim-uses : ℕ → term-prim-lts.Claims
-term-prim-uses t = (head-of-reads.Asked, head-of-reads.Learnt, extent-in-reads.Asked, extent-in-reads.Learnt, core-in-reads.Asked, core-in-reads.Learnt, term-prim-below t, term-prim.Post, arguments-reads.Asked, arguments-reads.Learnt, struct-prim-below t, struct-prim.Post)
+term-prim-uses t = (core-in-reads.Asked, core-in-reads.Learnt, arguments-reads.Asked, arguments-reads.Learnt, struct-prim-below t, struct-prim.Post, head-of-reads.Asked, head-of-reads.Learnt, extent-in-reads.Asked, extent-in-reads.Learnt, term-prim-below t, term-prim.Post)
 
--- What is known of an array once its element's extent is read, c, in plain names.
+-- What is known of a term whose core is a struct, c, in plain names.
+module _ (t : ℕ) (c : term-prim-lts.After-number (term-prim-uses t) (term-prim-at t) term-prim.Post) where
+  str-core : InStruct (now (c .before .before .before .before .before .args .f)) (c .before .before .before .before .before .args .p) (c .number .given .0 .0) (c .number .given .0 .1 .0)
+  str-core = subst (λ (x : Core). CoreIs (now (c .before .before .before .before .before .args .f)) (c .before .before .before .before .before .args .p) x) (sym (c .before .before .core-in .ensures) ∙ c .number .given .1) (c .before .before .before .before .before .pre .1 .4 .cores (c .before .before .before .before .before .args .p) (c .before .before .before .before .before .pre .1 .0))
+
+  str-fits : termLayout (now (c .before .before .before .before .before .args .f)) (c .before .before .before .before .before .args .k) (c .before .before .before .before .before .args .p) .size ≤ 256
+  str-fits = let h = c .before .before .before .before .before .pre .1 .1 in omega arith
+
+  str-is : termLayout (now (c .before .before .before .before .before .args .f)) (c .before .before .before .before .before .args .k) (c .before .before .before .before .before .args .p) ≡ subLayout (arg (argsOf (c .number .given .0 .1 .0) 4)) (structLayout (now (c .before .before .before .before .before .args .f)) (c .number .given .0 .0))
+  str-is = str-core .same (c .before .before .before .before .before .args .k) str-fits
+
+-- and of one whose core is the term at a place
+module _ (t : ℕ) (c : term-prim-lts.After-head-of (term-prim-uses t) (term-prim-at t) term-prim.Post) where
+  abbrev trm-f : List ℕ
+  trm-f = now (c .before .before .before .before .before .before .before .args .f)
+
+  abbrev trm-k : ℕ
+  trm-k = c .before .before .before .before .before .before .before .args .k
+
+  abbrev trm-p : ℕ
+  trm-p = c .before .before .c .given .0 .0
+
+  trm-core : CoreIs trm-f (c .before .before .before .before .before .before .before .args .p) (Term trm-p)
+  trm-core = subst (λ (x : Core). CoreIs trm-f (c .before .before .before .before .before .before .before .args .p) x) (sym (c .before .before .before .before .core-in .ensures) ∙ c .before .before .c .given .1) (c .before .before .before .before .before .before .before .pre .1 .4 .cores (c .before .before .before .before .before .before .before .args .p) (c .before .before .before .before .before .before .before .pre .1 .0))
+
+  trm-low : trm-p ≤ c .before .before .before .before .before .before .before .args .n
+  trm-low = let l = trm-core .0 .low in omega (arith, c .before .before .before .before .before .before .before .pre .1 .0)
+
+  trm-same : termLayout trm-f trm-k (c .before .before .before .before .before .before .before .args .p) ≡ termLayout trm-f trm-k trm-p
+  trm-same = trm-core .0 .same trm-k (let h = c .before .before .before .before .before .before .before .pre .1 .1 in omega arith)
+
+  trm-fits : c .before .before .before .before .before .before .before .args .off + termLayout trm-f trm-k trm-p .size ≤ 256
+  trm-fits = subst (λ (L : Layout variable). c .before .before .before .before .before .before .before .args .off + L .size ≤ 256) trm-same (c .before .before .before .before .before .before .before .pre .1 .1)
+
+  trm-inside : c .before .before .before .before .before .before .before .args .i < count (termLayout trm-f trm-k trm-p)
+  trm-inside = subst (λ (L : Layout variable). c .before .before .before .before .before .before .before .args .i < count L) trm-same (c .before .before .before .before .before .before .before .pre .1 .2)
+
+  -- what is found in the core is found in the term
+  trm-found : (r : Primitive) → Found trm-f r (c .before .before .before .before .before .before .before .args .t5) (c .before .before .before .before .before .before .before .args .off) (nth (termLayout trm-f trm-k trm-p) (c .before .before .before .before .before .before .before .args .i)) → Found trm-f r (c .before .before .before .before .before .before .before .args .t5) (c .before .before .before .before .before .before .before .args .off) (nth (termLayout trm-f trm-k (c .before .before .before .before .before .before .before .args .p)) (c .before .before .before .before .before .before .before .args .i))
+  trm-found r found = subst (λ (L : Layout variable). Found trm-f r (c .before .before .before .before .before .before .before .args .t5) (c .before .before .before .before .before .before .before .args .off) (nth L (c .before .before .before .before .before .before .before .args .i))) (sym trm-same) found
+
+-- which is an array
 module _ (t : ℕ) (c : term-prim-lts.After-extent-in (term-prim-uses t) (term-prim-at t) term-prim.Post) where
-  abbrev arr-f : List ℕ
-  arr-f = now (c .before .before .before .before .before .before .before .args .f)
-
-  abbrev arr-k : ℕ
-  arr-k = c .before .before .before .before .before .before .before .args .k
-
-  abbrev arr-p : ℕ
-  arr-p = c .before .before .before .before .before .before .before .args .p
-
   abbrev arr-a : ℕ
   arr-a = c .before .before .a .given .0 .1 .0
 
-  arr-head : headOf arr-f arr-p ≡ Arr (c .before .before .a .given .0 .0) arr-a
+  arr-head : headOf (trm-f t (c .before .before .before .before)) (trm-p t (c .before .before .before .before)) ≡ Arr (c .before .before .a .given .0 .0) arr-a
   arr-head = sym (c .before .before .before .before .head-of .ensures .0) ∙ c .before .before .a .given .1
 
-  arr-less : arr-a < arr-p
-  arr-less = fair-at arr-p _ _ (c .before .before .before .before .head-of .ensures .1) (c .before .before .a .given .1) .0
+  arr-less : arr-a < trm-p t (c .before .before .before .before)
+  arr-less = fair-at (trm-p t (c .before .before .before .before)) _ _ (c .before .before .before .before .head-of .ensures .1) (c .before .before .a .given .1) .0
 
-  arr-extent : c .extent-in .result ≡ exactOf (termLayout arr-f arr-k arr-a)
+  arr-extent : c .extent-in .result ≡ exactOf (termLayout (trm-f t (c .before .before .before .before)) (trm-k t (c .before .before .before .before)) arr-a)
   arr-extent =
-      c .extent-in .ensures ∙ c .before .before .before .before .before .before .before .pre .1 .4 .entries arr-a (let l = arr-less in let h = c .before .before .before .before .before .before .before .pre .1 .0 in omega arith)
-      (element-fits arr-f arr-k arr-p (c .before .before .before .before .before .before .before .args .off) (c .before .before .before .before .before .before .before .args .i) (c .before .before .before .before .before .before .before .args .t5) _ arr-a arr-head (c .before .before .before .before .before .before .before .pre .1 .1) (c .before .before .before .before .before .before .before .pre .1 .2))
+      c .extent-in .ensures ∙ c .before .before .before .before .before .before .before .before .before .before .before .pre .1 .4 .entries arr-a (let l = arr-less in let h = trm-low t (c .before .before .before .before) in omega arith)
+      (element-fits (trm-f t (c .before .before .before .before)) (trm-k t (c .before .before .before .before)) (trm-p t (c .before .before .before .before)) (c .before .before .before .before .before .before .before .before .before .before .before .args .off) (c .before .before .before .before .before .before .before .before .before .before .before .args .i) (c .before .before .before .before .before .before .before .before .before .before .before .args .t5) _ arr-a arr-head (trm-fits t (c .before .before .before .before)) (trm-inside t (c .before .before .before .before)))
 
-  arr-size : c .extent-in .result .size ≡ termLayout arr-f arr-k arr-a .size
+  arr-size : c .extent-in .result .size ≡ termLayout (trm-f t (c .before .before .before .before)) (trm-k t (c .before .before .before .before)) arr-a .size
   arr-size = ap (λ (x : Extent). x .size) arr-extent
 
-  arr-count : c .extent-in .result .count ≡ length (termLayout arr-f arr-k arr-a .prims)
+  arr-count : c .extent-in .result .count ≡ length (termLayout (trm-f t (c .before .before .before .before)) (trm-k t (c .before .before .before .before)) arr-a .prims)
   arr-count = ap (λ (x : Extent). x .count) arr-extent
 
--- and of its element's core
-module _ (t : ℕ) (c : term-prim-lts.After-core-in (term-prim-uses t) (term-prim-at t) term-prim.Post) where
-  arr-core : Core (arr-f t (c .before .before)) (arr-a t (c .before .before)) (c .core-in .result)
-  arr-core =
-      subst (λ (x : ℕ). Core (arr-f t (c .before .before)) (arr-a t (c .before .before)) x) (sym (c .core-in .ensures))
-      (c .before .before .before .before .before .before .before .before .before .pre .1 .4 .cores (arr-a t (c .before .before)) (let l = arr-less t (c .before .before) in let h = c .before .before .before .before .before .before .before .before .before .pre .1 .0 in omega arith))
-
-  arr-offset : c .before .before .before .before .before .before .before .before .before .args .off + c .before .before .before .before .before .before .before .before .before .args .i / c .before .before .extent-in .result .count * c .before .before .extent-in .result .size ≤ 256
-  arr-offset =
-      offset-le (arr-f t (c .before .before)) (arr-k t (c .before .before)) (arr-p t (c .before .before)) (c .before .before .before .before .before .before .before .before .before .args .off) (c .before .before .before .before .before .before .before .before .before .args .i) (c .before .before .before .before .before .before .before .before .before .args .t5) _ (arr-a t (c .before .before)) (arr-head t (c .before .before)) (c .before .before .before .before .before .before .before .before .before .pre .1 .1) (c .before .before .before .before .before .before .before .before .before .pre .1 .2)
-      (c .core-in .result) arr-core _ _ (arr-count t (c .before .before)) (arr-size t (c .before .before))
+  arr-offset : c .before .before .before .before .before .before .before .before .before .before .before .args .off + c .before .before .before .before .before .before .before .before .before .before .before .args .i / c .extent-in .result .count * c .extent-in .result .size ≤ 256
+  arr-offset = offset-le (trm-f t (c .before .before .before .before)) (trm-k t (c .before .before .before .before)) (trm-p t (c .before .before .before .before)) (c .before .before .before .before .before .before .before .before .before .before .before .args .off) (c .before .before .before .before .before .before .before .before .before .before .before .args .i) (c .before .before .before .before .before .before .before .before .before .before .before .args .t5) _ arr-a arr-head (trm-fits t (c .before .before .before .before)) (trm-inside t (c .before .before .before .before)) _ _ arr-count arr-size
 
 -- What is known of a field once its extent is read, c, in plain names.
 module _ (t : ℕ) (c : struct-prim-lts.After-extent-in (struct-prim-uses t) (struct-prim-at t) struct-prim.Post struct-prim-Inv-loop struct-prim-μ-loop) where
@@ -134,6 +162,9 @@ module _ (t : ℕ) (c : struct-prim-lts.After-extent-in (struct-prim-uses t) (st
   fld-place : c .before .place-of .result ≡ fieldPlace fld-f fld-n fld-N fld-j
   unfolding fieldPlace
   fld-place = c .before .place-of .ensures .0 ∙ ap (placeOf fld-n) (c .before .before .entry-of .ensures .0 ∙ ap (λ (x : Record). entryOf x fld-j) (c .before .before .before .before .before .record-at2 .ensures))
+
+  fld-same : termLayout fld-f fld-N (c .before .place-of .result) ≡ field fld-f fld-n fld-N fld-j
+  fld-same = ap (termLayout fld-f fld-N) fld-place
 
   fld-less : fld-j < fieldCount fld-f fld-n fld-N
   fld-less = let e = ap (λ (x : Record). x .b) (c .before .before .before .before .before .before .record-at .ensures) in let h = c .before .before .before .loop-test .taken in omega arith
@@ -154,15 +185,6 @@ module _ (t : ℕ) (c : struct-prim-lts.After-extent-in (struct-prim-uses t) (st
   fld-sum : c .before .before .before .before .loop .size + field fld-f fld-n fld-N fld-j .size ≤ 256
   fld-sum = sums-small fld-f fld-n fld-N (c .before .before .before .before .before .before .before .before .before .pre .1 .4 .terms) (c .before .before .before .before .before .before .before .before .before .args .off) (c .before .before .before .before .before .before .before .before .before .args .i) (c .before .before .before .before .before .before .before .before .before .pre .1 .1) (c .before .before .before .before .before .before .before .before .before .pre .1 .2) fld-j (c .before .before .before .before .loop .size) (c .before .before .before .before .loop .count) fld-less (c .before .before .before .before .loop .inv .1) (c .before .before .before .before .loop .inv .2)
 
-module _ (t : ℕ) (c : struct-prim-lts.After-core-in (struct-prim-uses t) (struct-prim-at t) struct-prim.Post struct-prim-Inv-loop struct-prim-μ-loop) where
-  fld-core : Core (fld-f t (c .before .before .before)) (fieldPlace (fld-f t (c .before .before .before)) (fld-n t (c .before .before .before)) (fld-N t (c .before .before .before)) (fld-j t (c .before .before .before))) (c .core-in .result)
-  fld-core =
-      subst (λ (x : ℕ). Core (fld-f t (c .before .before .before)) x (c .core-in .result)) (fld-place t (c .before .before .before))
-      (subst (λ (x : ℕ). Core (fld-f t (c .before .before .before)) (c .before .before .before .before .place-of .result) x) (sym (c .core-in .ensures)) (c .before .before .before .before .before .before .before .before .before .before .before .before .pre .1 .4 .cores (c .before .before .before .before .place-of .result) (c .before .before .before .before .place-of .ensures .1)))
-
-  fld-here : c .before .before .before .before .before .before .before .before .before .before .before .before .args .i < c .before .before .before .before .before .before .before .loop .count + length (field (fld-f t (c .before .before .before)) (fld-n t (c .before .before .before)) (fld-N t (c .before .before .before)) (fld-j t (c .before .before .before)) .prims)
-  fld-here = let h = c .before .if1 .taken in let e = fld-count t (c .before .before .before) in omega arith
-
 struct-prim-mul-first : (t : ℕ) → struct-prim-lts.Need-mul-first (struct-prim-uses t) (struct-prim-at t) struct-prim.Post struct-prim-Inv-loop struct-prim-μ-loop
 struct-prim-mul-first t c = omega (arith, c .before .before .pre .1 .0)
 
@@ -180,20 +202,33 @@ struct-prim-add-if1 : (t : ℕ) → struct-prim-lts.Need-add-if1 (struct-prim-us
 struct-prim-add-if1 t c = omega (arith, extent-small (now (c .before .before .before .before .before .before .before .before .before .before .args .tab)) (c .before .before .place-of .result) (c .before .extent-in .result) (c .before .extent-in .ensures), c .before .before .before .before .before .loop .inv .3, c .before .before .before .before .before .before .before .before .before .before .pre .1 .5)
 
 struct-prim-add-term-prim : (t : ℕ) → struct-prim-lts.Need-add-term-prim (struct-prim-uses t) (struct-prim-at t) struct-prim.Post struct-prim-Inv-loop struct-prim-μ-loop
-struct-prim-add-term-prim t c = omega (arith, fld-sum t (c .before .before .before), c .before .before .before .before .before .before .before .before .before .before .before .before .pre .1 .1, core-in-field (fld-f t (c .before .before .before)) (fld-n t (c .before .before .before)) (fld-N t (c .before .before .before)) (c .before .before .before .before .before .before .before .before .before .before .before .before .pre .1 .4 .terms) (c .before .before .before .before .before .before .before .before .before .before .before .before .args .off) (c .before .before .before .before .before .before .before .before .before .before .before .before .args .i) (c .before .before .before .before .before .before .before .before .before .before .before .before .pre .1 .1) (c .before .before .before .before .before .before .before .before .before .before .before .before .pre .1 .2) (fld-j t (c .before .before .before)) (c .before .before .before .before .before .before .before .loop .size) (c .before .before .before .before .before .before .before .loop .count) (fld-less t (c .before .before .before)) (c .before .before .before .before .before .before .before .loop .inv .1) (c .before .before .before .before .before .before .before .loop .inv .2) (c .core-in .result) (fld-core t c) (c .before .before .before .before .before .before .before .loop .inv .3) (fld-here t c))
+struct-prim-add-term-prim t c = omega (arith, in-field (fld-f t (c .before .before)) (fld-n t (c .before .before)) (fld-N t (c .before .before)) (c .before .before .before .before .before .before .before .before .before .before .before .pre .1 .4 .terms) (c .before .before .before .before .before .before .before .before .before .before .before .args .off) (c .before .before .before .before .before .before .before .before .before .before .before .args .i) (c .before .before .before .before .before .before .before .before .before .before .before .pre .1 .1) (c .before .before .before .before .before .before .before .before .before .before .before .pre .1 .2) (fld-j t (c .before .before)) (c .before .before .before .before .before .before .loop .size) (c .before .before .before .before .before .before .loop .count) (fld-less t (c .before .before)) (c .before .before .before .before .before .before .loop .inv .1) (c .before .before .before .before .before .before .loop .inv .2) (c .before .before .before .before .before .before .loop .inv .3) (let h = c .if1 .taken in let e = fld-count t (c .before .before) in omega arith))
 
 struct-prim-sub-term-prim : (t : ℕ) → struct-prim-lts.Need-sub-term-prim (struct-prim-uses t) (struct-prim-at t) struct-prim.Post struct-prim-Inv-loop struct-prim-μ-loop
-struct-prim-sub-term-prim t c = omega (arith, c .before .before .before .before .before .before .before .loop .inv .3)
+struct-prim-sub-term-prim t c = omega (arith, c .before .before .before .before .before .before .loop .inv .3)
 
 struct-prim-term-prim-requires : (t : ℕ) → struct-prim-lts.Need-term-prim-requires (struct-prim-uses t) (struct-prim-at t) struct-prim.Post struct-prim-Inv-loop struct-prim-μ-loop
-struct-prim-term-prim-requires t c κs = let l = fld-core t c .low in
-    let q = fld-place t (c .before .before .before) in
-    let b = c .before .before .before .before .place-of .ensures .1 in
-    let m = c .before .before .before .before .before .before .before .before .before .before .before .before .pre .1 .4 .terms .few in
-    (omega arith, (omega arith, core-in-field (fld-f t (c .before .before .before)) (fld-n t (c .before .before .before)) (fld-N t (c .before .before .before)) (c .before .before .before .before .before .before .before .before .before .before .before .before .pre .1 .4 .terms) (c .before .before .before .before .before .before .before .before .before .before .before .before .args .off) (c .before .before .before .before .before .before .before .before .before .before .before .before .args .i) (c .before .before .before .before .before .before .before .before .before .before .before .before .pre .1 .1) (c .before .before .before .before .before .before .before .before .before .before .before .before .pre .1 .2) (fld-j t (c .before .before .before)) (c .before .before .before .before .before .before .before .loop .size) (c .before .before .before .before .before .before .before .loop .count) (fld-less t (c .before .before .before)) (c .before .before .before .before .before .before .before .loop .inv .1) (c .before .before .before .before .before .before .before .loop .inv .2) (c .core-in .result) (fld-core t c) (c .before .before .before .before .before .before .before .loop .inv .3) (fld-here t c), field-inside (fld-f t (c .before .before .before)) (fld-n t (c .before .before .before)) (fld-N t (c .before .before .before)) (c .before .before .before .before .before .before .before .before .before .before .before .before .pre .1 .4 .terms) (c .before .before .before .before .before .before .before .before .before .before .before .before .args .off) (c .before .before .before .before .before .before .before .before .before .before .before .before .args .i) (c .before .before .before .before .before .before .before .before .before .before .before .before .pre .1 .1) (c .before .before .before .before .before .before .before .before .before .before .before .before .pre .1 .2) (fld-j t (c .before .before .before)) (c .before .before .before .before .before .before .before .loop .size) (c .before .before .before .before .before .before .before .loop .count) (fld-less t (c .before .before .before)) (c .before .before .before .before .before .before .before .loop .inv .1) (c .before .before .before .before .before .before .before .loop .inv .2) (c .core-in .result) (fld-core t c) (c .before .before .before .before .before .before .before .loop .inv .3) (fld-here t c), c .before .before .before .before .before .before .before .before .before .before .before .before .pre .1 .3, c .before .before .before .before .before .before .before .before .before .before .before .before .pre .1 .4, omega (arith, c .before .before .before .before .before .before .before .before .before .before .before .before .pre .1 .5)))
+struct-prim-term-prim-requires t c κs =
+    let b = c .before .before .before .place-of .ensures .1 in
+    let m = c .before .before .before .before .before .before .before .before .before .before .before .pre .1 .4 .terms .few in (
+      omega arith,
+      (
+        b,
+        subst (λ (L : Layout variable). c .before .before .before .before .before .before .before .before .before .before .before .args .off + c .before .before .before .before .before .before .loop .size + L .size ≤ 256) (sym (fld-same t (c .before .before))) (in-field (fld-f t (c .before .before)) (fld-n t (c .before .before)) (fld-N t (c .before .before)) (c .before .before .before .before .before .before .before .before .before .before .before .pre .1 .4 .terms) (c .before .before .before .before .before .before .before .before .before .before .before .args .off) (c .before .before .before .before .before .before .before .before .before .before .before .args .i) (c .before .before .before .before .before .before .before .before .before .before .before .pre .1 .1) (c .before .before .before .before .before .before .before .before .before .before .before .pre .1 .2) (fld-j t (c .before .before)) (c .before .before .before .before .before .before .loop .size) (c .before .before .before .before .before .before .loop .count) (fld-less t (c .before .before)) (c .before .before .before .before .before .before .loop .inv .1) (c .before .before .before .before .before .before .loop .inv .2) (c .before .before .before .before .before .before .loop .inv .3) (let h = c .if1 .taken in let e = fld-count t (c .before .before) in omega arith)),
+        subst (λ (L : Layout variable). c .before .before .before .before .before .before .before .before .before .before .before .args .i - c .before .before .before .before .before .before .loop .count < count L) (sym (fld-same t (c .before .before))) (field-inside (fld-f t (c .before .before)) (fld-n t (c .before .before)) (fld-N t (c .before .before)) (c .before .before .before .before .before .before .before .before .before .before .before .pre .1 .4 .terms) (c .before .before .before .before .before .before .before .before .before .before .before .args .off) (c .before .before .before .before .before .before .before .before .before .before .before .args .i) (c .before .before .before .before .before .before .before .before .before .before .before .pre .1 .1) (c .before .before .before .before .before .before .before .before .before .before .before .pre .1 .2) (fld-j t (c .before .before)) (c .before .before .before .before .before .before .loop .size) (c .before .before .before .before .before .before .loop .count) (fld-less t (c .before .before)) (c .before .before .before .before .before .before .loop .inv .1) (c .before .before .before .before .before .before .loop .inv .2) (c .before .before .before .before .before .before .loop .inv .3) (let h = c .if1 .taken in let e = fld-count t (c .before .before) in omega arith)),
+        c .before .before .before .before .before .before .before .before .before .before .before .pre .1 .3,
+        c .before .before .before .before .before .before .before .before .before .before .before .pre .1 .4,
+        omega (arith, c .before .before .before .before .before .before .before .before .before .before .before .pre .1 .5),
+      ),
+    )
 
 struct-prim-returns : (t : ℕ) → struct-prim-lts.Need-returns (struct-prim-uses t) (struct-prim-at t) struct-prim.Post struct-prim-Inv-loop struct-prim-μ-loop
-struct-prim-returns t c = (found-field (fld-f t (c .before .before .before .before)) (fld-n t (c .before .before .before .before)) (fld-N t (c .before .before .before .before)) (c .before .before .before .before .before .before .before .before .before .before .before .before .before .pre .1 .4 .terms) (c .before .before .before .before .before .before .before .before .before .before .before .before .before .args .off) (c .before .before .before .before .before .before .before .before .before .before .before .before .before .args .i) (c .before .before .before .before .before .before .before .before .before .before .before .before .before .pre .1 .1) (c .before .before .before .before .before .before .before .before .before .before .before .before .before .pre .1 .2) (fld-j t (c .before .before .before .before)) (c .before .before .before .before .before .before .before .before .loop .size) (c .before .before .before .before .before .before .before .before .loop .count) (fld-less t (c .before .before .before .before)) (c .before .before .before .before .before .before .before .before .loop .inv .1) (c .before .before .before .before .before .before .before .before .loop .inv .2) (c .before .core-in .result) (fld-core t (c .before)) (c .before .before .before .before .before .before .before .before .loop .inv .3) (fld-here t (c .before)) (c .term-prim .result) (c .before .before .before .before .before .before .before .before .before .before .before .before .before .args .to) (c .term-prim .ensures .0), c .term-prim .ensures .1, c .term-prim .ensures .2)
+struct-prim-returns t c = (
+  found-field (fld-f t (c .before .before .before)) (fld-n t (c .before .before .before)) (fld-N t (c .before .before .before)) (c .before .before .before .before .before .before .before .before .before .before .before .before .pre .1 .4 .terms) (c .before .before .before .before .before .before .before .before .before .before .before .before .args .off) (c .before .before .before .before .before .before .before .before .before .before .before .before .args .i) (c .before .before .before .before .before .before .before .before .before .before .before .before .pre .1 .1) (c .before .before .before .before .before .before .before .before .before .before .before .before .pre .1 .2) (fld-j t (c .before .before .before)) (c .before .before .before .before .before .before .before .loop .size) (c .before .before .before .before .before .before .before .loop .count) (fld-less t (c .before .before .before)) (c .before .before .before .before .before .before .before .loop .inv .1) (c .before .before .before .before .before .before .before .loop .inv .2) (c .before .before .before .before .before .before .before .loop .inv .3) (let h = c .before .if1 .taken in let e = fld-count t (c .before .before .before) in omega arith) (c .term-prim .result) (c .before .before .before .before .before .before .before .before .before .before .before .before .args .to)
+      (subst (λ (L : Layout variable). Found (fld-f t (c .before .before .before)) (c .term-prim .result) (c .before .before .before .before .before .before .before .before .before .before .before .before .args .to) (c .before .before .before .before .before .before .before .before .before .before .before .before .args .off + c .before .before .before .before .before .before .before .loop .size) (nth L (c .before .before .before .before .before .before .before .before .before .before .before .before .args .i - c .before .before .before .before .before .before .before .loop .count))) (fld-same t (c .before .before .before)) (c .term-prim .ensures .0)),
+  c .term-prim .ensures .1,
+  c .term-prim .ensures .2,
+)
 
 struct-prim-add-size : (t : ℕ) → struct-prim-lts.Need-add-size (struct-prim-uses t) (struct-prim-at t) struct-prim.Post struct-prim-Inv-loop struct-prim-μ-loop
 struct-prim-add-size t c = omega (arith, fld-sum t (c .before .before .before), fld-size t (c .before .before .before))
@@ -213,44 +248,72 @@ struct-prim-returns-2 : (t : ℕ) → struct-prim-lts.Need-returns-2 (struct-pri
 struct-prim-returns-2 t c = absurd (fields-end (now (c .before .before .before .before .before .before .args .f)) (c .before .before .before .before .before .before .args .n) (c .before .before .before .before .before .before .args .number) (c .before .before .before .before .before .before .pre .1 .4 .terms) (c .before .before .before .before .before .before .args .off) (c .before .before .before .before .before .before .args .i) (c .before .before .before .before .before .before .pre .1 .1) (c .before .before .before .before .before .before .pre .1 .2) (c .before .loop .j) (c .before .loop .count) (let e = ap (λ (x : Record). x .b) (c .before .before .before .record-at .ensures) in let h = c .loop-test .left in let l = c .before .loop .inv .0 in omega arith) (c .before .loop .inv .2) (c .before .loop .inv .3))
 
 term-prim-returns : (t : ℕ) → term-prim-lts.Need-returns (term-prim-uses t) (term-prim-at t) term-prim.Post
-term-prim-returns t c = absurd (element-some (arr-f t (c .before)) (arr-k t (c .before)) (arr-p t (c .before)) (c .before .before .before .before .before .before .before .before .args .off) (c .before .before .before .before .before .before .before .before .args .i) (c .before .before .before .before .before .before .before .before .args .t5) _ (arr-a t (c .before)) (arr-head t (c .before)) (c .before .before .before .before .before .before .before .before .pre .1 .1) (c .before .before .before .before .before .before .before .before .pre .1 .2) (sym (arr-count t (c .before)) ∙ c .if1 .taken))
+term-prim-returns t c = absurd (element-some (trm-f t (c .before .before .before .before .before)) (trm-k t (c .before .before .before .before .before)) (trm-p t (c .before .before .before .before .before)) (c .before .before .before .before .before .before .before .before .before .before .before .before .args .off) (c .before .before .before .before .before .before .before .before .before .before .before .before .args .i) (c .before .before .before .before .before .before .before .before .before .before .before .before .args .t5) _ (arr-a t (c .before)) (arr-head t (c .before)) (trm-fits t (c .before .before .before .before .before)) (trm-inside t (c .before .before .before .before .before)) (sym (arr-count t (c .before)) ∙ c .if1 .taken))
 
 term-prim-mul-term-prim : (t : ℕ) → term-prim-lts.Need-mul-term-prim (term-prim-uses t) (term-prim-at t) term-prim.Post
-term-prim-mul-term-prim t c = omega (arith, arr-offset t c)
+term-prim-mul-term-prim t c = omega (arith, arr-offset t (c .before))
 
 term-prim-add-term-prim : (t : ℕ) → term-prim-lts.Need-add-term-prim (term-prim-uses t) (term-prim-at t) term-prim.Post
-term-prim-add-term-prim t c = omega (arith, arr-offset t c)
+term-prim-add-term-prim t c = omega (arith, arr-offset t (c .before))
 
 term-prim-term-prim-requires : (t : ℕ) → term-prim-lts.Need-term-prim-requires (term-prim-uses t) (term-prim-at t) term-prim.Post
-term-prim-term-prim-requires t c κs = let l = arr-core t c .low in
-    let m = arr-less t (c .before .before) in
-    let b = c .before .before .before .before .before .before .before .before .before .pre .1 .0 in
-    (omega arith, (omega arith, core-fits (arr-f t (c .before .before)) (arr-k t (c .before .before)) (arr-p t (c .before .before)) (c .before .before .before .before .before .before .before .before .before .args .off) (c .before .before .before .before .before .before .before .before .before .args .i) (c .before .before .before .before .before .before .before .before .before .args .t5) _ (arr-a t (c .before .before)) (arr-head t (c .before .before)) (c .before .before .before .before .before .before .before .before .before .pre .1 .1) (c .before .before .before .before .before .before .before .before .before .pre .1 .2) (c .core-in .result) (arr-core t c) _ _ (arr-count t (c .before .before)) (arr-size t (c .before .before)), core-inside (arr-f t (c .before .before)) (arr-k t (c .before .before)) (arr-p t (c .before .before)) (c .before .before .before .before .before .before .before .before .before .args .off) (c .before .before .before .before .before .before .before .before .before .args .i) (c .before .before .before .before .before .before .before .before .before .args .t5) _ (arr-a t (c .before .before)) (arr-head t (c .before .before)) (c .before .before .before .before .before .before .before .before .before .pre .1 .1) (c .before .before .before .before .before .before .before .before .before .pre .1 .2) (c .core-in .result) (arr-core t c) _ _ (arr-count t (c .before .before)) (arr-size t (c .before .before)), c .before .before .before .before .before .before .before .before .before .pre .1 .3, c .before .before .before .before .before .before .before .before .before .pre .1 .4, (let e = div-add-mod' (c .before .before .before .before .before .before .before .before .before .args .i) (c .before .before .extent-in .result .count) in omega (arith, c .before .before .before .before .before .before .before .before .before .pre .1 .5))))
-
-term-prim-arguments-requires : (t : ℕ) → term-prim-lts.Need-arguments-requires (term-prim-uses t) (term-prim-at t) term-prim.Post
-term-prim-arguments-requires t c κs = subst Few (sym (c .before .before .before .before .before .head-of .ensures .0) ∙ c .before .before .before .number .given .1) (c .before .before .before .before .before .before .before .before .pre .1 .4 .few (c .before .before .before .before .before .before .before .before .args .p) (c .before .before .before .before .before .before .before .before .pre .1 .0))
+term-prim-term-prim-requires t c κs =
+    let m = arr-less t (c .before) in
+    let l = trm-core t (c .before .before .before .before .before) .0 .low in
+    let b = c .before .before .before .before .before .before .before .before .before .before .before .before .pre .1 .0 in (
+      omega (arith, c .before .before .before .before .before .before .before .before .before .before .before .before .pre .0),
+      (
+        omega arith,
+        element-room (trm-f t (c .before .before .before .before .before)) (trm-k t (c .before .before .before .before .before)) (trm-p t (c .before .before .before .before .before)) (c .before .before .before .before .before .before .before .before .before .before .before .before .args .off) (c .before .before .before .before .before .before .before .before .before .before .before .before .args .i) (c .before .before .before .before .before .before .before .before .before .before .before .before .args .t5) _ (arr-a t (c .before)) (arr-head t (c .before)) (trm-fits t (c .before .before .before .before .before)) (trm-inside t (c .before .before .before .before .before)) _ _ (arr-count t (c .before)) (arr-size t (c .before)),
+        element-inside (trm-f t (c .before .before .before .before .before)) (trm-k t (c .before .before .before .before .before)) (trm-p t (c .before .before .before .before .before)) (c .before .before .before .before .before .before .before .before .before .before .before .before .args .off) (c .before .before .before .before .before .before .before .before .before .before .before .before .args .i) (c .before .before .before .before .before .before .before .before .before .before .before .before .args .t5) _ (arr-a t (c .before)) (arr-head t (c .before)) (trm-fits t (c .before .before .before .before .before)) (trm-inside t (c .before .before .before .before .before)) _ _ (arr-count t (c .before)) (arr-size t (c .before)),
+        c .before .before .before .before .before .before .before .before .before .before .before .before .pre .1 .3,
+        c .before .before .before .before .before .before .before .before .before .before .before .before .pre .1 .4,
+        (let e = div-add-mod' (c .before .before .before .before .before .before .before .before .before .before .before .before .args .i) (c .before .extent-in .result .count) in omega (arith, c .before .before .before .before .before .before .before .before .before .before .before .before .pre .1 .5)),
+      ),
+    )
 
 term-prim-struct-prim-requires : (t : ℕ) → term-prim-lts.Need-struct-prim-requires (term-prim-uses t) (term-prim-at t) term-prim.Post
-term-prim-struct-prim-requires t c κs = let s = struct-size (now (c .before .before .before .before .before .before .before .before .before .args .f)) (c .before .before .before .before .before .before .before .before .before .args .k) (c .before .before .before .before .before .before .before .before .before .args .p) (c .before .before .before .before .before .before .before .before .before .args .off) (c .before .before .before .before .before .before .before .before .before .args .i) (c .before .before .before .before .before .before .before .before .before .args .t5) _ _ _ (sym (c .before .before .before .before .before .before .head-of .ensures .0) ∙ c .before .before .before .before .number .given .1) (c .before .before .if2 .taken) in
-    let n = struct-count (now (c .before .before .before .before .before .before .before .before .before .args .f)) (c .before .before .before .before .before .before .before .before .before .args .k) (c .before .before .before .before .before .before .before .before .before .args .p) (c .before .before .before .before .before .before .before .before .before .args .off) (c .before .before .before .before .before .before .before .before .before .args .i) (c .before .before .before .before .before .before .before .before .before .args .t5) _ _ _ (sym (c .before .before .before .before .before .before .head-of .ensures .0) ∙ c .before .before .before .before .number .given .1) (c .before .before .if2 .taken) in
-    let w = fair-at (c .before .before .before .before .before .before .before .before .before .args .p) _ _ (c .before .before .before .before .before .before .head-of .ensures .1) (c .before .before .before .before .number .given .1) .0 in
-    let l = c .before .before .if2 .taken in
-    (omega arith, (w, omega (arith, c .before .before .before .before .before .before .before .before .before .pre .1 .1), omega (arith, c .before .before .before .before .before .before .before .before .before .pre .1 .2), keeps-args (c .before .before .before .before .before .before .before .before .before .args .t5) (c .arguments .result) _ _ (subst Few (sym (c .before .before .before .before .before .before .head-of .ensures .0) ∙ c .before .before .before .before .number .given .1) (c .before .before .before .before .before .before .before .before .before .pre .1 .4 .few (c .before .before .before .before .before .before .before .before .before .args .p) (c .before .before .before .before .before .before .before .before .before .pre .1 .0))) (c .arguments .ensures), known-less (now (c .before .before .before .before .before .before .before .before .before .args .f)) (c .before .before .before .before .before .before .before .before .before .args .n) _ (c .before .before .before .before .before .before .before .before .before .args .k) (now (c .before .before .before .before .before .before .before .before .before .args .tab)) (omega arith) (c .before .before .before .before .before .before .before .before .before .pre .1 .4), c .before .before .before .before .before .before .before .before .before .pre .1 .5))
+term-prim-struct-prim-requires t c κs =
+    let s = struct-size (now (c .before .before .before .before .before .before .before .before .args .f)) (c .before .before .before .before .before .before .before .before .args .k) (c .before .before .before .before .before .before .before .before .args .p) (c .before .before .before .before .before .before .before .before .args .off) (c .before .before .before .before .before .before .before .before .args .i) (c .before .before .before .before .before .before .before .before .args .t5) _ 4 _ (str-is t (c .before .before .before)) in
+    let n = struct-count (now (c .before .before .before .before .before .before .before .before .args .f)) (c .before .before .before .before .before .before .before .before .args .k) (c .before .before .before .before .before .before .before .before .args .p) (c .before .before .before .before .before .before .before .before .args .off) (c .before .before .before .before .before .before .before .before .args .i) (c .before .before .before .before .before .before .before .before .args .t5) _ 4 _ (str-is t (c .before .before .before)) in
+    let less = str-core t (c .before .before .before) .known (c .before .before .before .before .before .before .before .before .args .k) (str-fits t (c .before .before .before)) in (
+      omega (arith, c .before .before .before .before .before .before .before .before .pre .0),
+      (
+        str-core t (c .before .before .before) .number,
+        omega (arith, c .before .before .before .before .before .before .before .before .pre .1 .1),
+        omega (arith, c .before .before .before .before .before .before .before .before .pre .1 .2),
+        keeps-args (c .before .before .before .before .before .before .before .before .args .t5) (c .arguments .result) _ 4 (omega arith) (c .arguments .ensures),
+        known-less (now (c .before .before .before .before .before .before .before .before .args .f)) (c .before .before .before .before .before .before .before .before .args .n) _ (c .before .before .before .before .before .before .before .before .args .k) (now (c .before .before .before .before .before .before .before .before .args .tab)) (omega arith) (c .before .before .before .before .before .before .before .before .pre .1 .4),
+        c .before .before .before .before .before .before .before .before .pre .1 .5,
+      ),
+    )
 
 term-prim-returns-2 : (t : ℕ) → term-prim-lts.Need-returns-2 (term-prim-uses t) (term-prim-at t) term-prim.Post
-term-prim-returns-2 t c = (found-struct (now (c .before .before .before .before .before .before .before .before .before .before .args .f)) (c .before .before .before .before .before .before .before .before .before .before .args .k) (c .before .before .before .before .before .before .before .before .before .before .args .p) (c .before .before .before .before .before .before .before .before .before .before .args .off) (c .before .before .before .before .before .before .before .before .before .before .args .i) (c .before .before .before .before .before .before .before .before .before .before .args .t5) _ _ _ (sym (c .before .before .before .before .before .before .before .head-of .ensures .0) ∙ c .before .before .before .before .before .number .given .1) (c .before .before .before .if2 .taken) (c .before .arguments .result) (c .before .before .before .before .before .before .before .before .before .before .pre .1 .3) (c .before .arguments .ensures) (c .struct-prim .result) (c .struct-prim .ensures .0), c .struct-prim .ensures .1, c .struct-prim .ensures .2)
+term-prim-returns-2 t c = (found-struct (now (c .before .before .before .before .before .before .before .before .before .args .f)) (c .before .before .before .before .before .before .before .before .before .args .k) (c .before .before .before .before .before .before .before .before .before .args .p) (c .before .before .before .before .before .before .before .before .before .args .off) (c .before .before .before .before .before .before .before .before .before .args .i) (c .before .before .before .before .before .before .before .before .before .args .t5) _ 4 _ (str-is t (c .before .before .before .before)) (c .before .arguments .result) (c .before .before .before .before .before .before .before .before .before .pre .1 .3) (c .before .arguments .ensures) (c .struct-prim .result) (c .struct-prim .ensures .0), c .struct-prim .ensures .1, c .struct-prim .ensures .2)
 
 term-prim-returns-3 : (t : ℕ) → term-prim-lts.Need-returns-3 (term-prim-uses t) (term-prim-at t) term-prim.Post
-term-prim-returns-3 t c = (found-arr (arr-f t (c .before .before .before)) (arr-k t (c .before .before .before)) (arr-p t (c .before .before .before)) (c .before .before .before .before .before .before .before .before .before .before .args .off) (c .before .before .before .before .before .before .before .before .before .before .args .i) (c .before .before .before .before .before .before .before .before .before .before .args .t5) _ (arr-a t (c .before .before .before)) (arr-head t (c .before .before .before)) (c .before .before .before .before .before .before .before .before .before .before .pre .1 .1) (c .before .before .before .before .before .before .before .before .before .before .pre .1 .2) (c .before .core-in .result) (arr-core t (c .before)) _ _ (arr-count t (c .before .before .before)) (arr-size t (c .before .before .before)) (c .term-prim .result) (c .term-prim .ensures .0), c .term-prim .ensures .1, c .term-prim .ensures .2)
+term-prim-returns-3 t c = (trm-found t (c .before .before .before .before .before .before) (c .term-prim .result) (found-arr (trm-f t (c .before .before .before .before .before .before)) (trm-k t (c .before .before .before .before .before .before)) (trm-p t (c .before .before .before .before .before .before)) (c .before .before .before .before .before .before .before .before .before .before .before .before .before .args .off) (c .before .before .before .before .before .before .before .before .before .before .before .before .before .args .i) (c .before .before .before .before .before .before .before .before .before .before .before .before .before .args .t5) _ (arr-a t (c .before .before)) (arr-head t (c .before .before)) (trm-fits t (c .before .before .before .before .before .before)) (trm-inside t (c .before .before .before .before .before .before)) _ _ (arr-count t (c .before .before)) (arr-size t (c .before .before)) (c .term-prim .result) (c .term-prim .ensures .0)), c .term-prim .ensures .1, c .term-prim .ensures .2)
 
 term-prim-returns-4 : (t : ℕ) → term-prim-lts.Need-returns-4 (term-prim-uses t) (term-prim-at t) term-prim.Post
-term-prim-returns-4 t c = absurd (struct-none (now (c .before .before .before .before .before .before .before .args .f)) (c .before .before .before .before .before .before .before .args .k) (c .before .before .before .before .before .before .before .args .p) (c .before .before .before .before .before .before .before .args .off) (c .before .before .before .before .before .before .before .args .i) (c .before .before .before .before .before .before .before .args .t5) _ _ _ (sym (c .before .before .before .before .head-of .ensures .0) ∙ c .before .before .number .given .1) (c .if2 .left) (c .before .before .before .before .before .before .before .pre .1 .2))
+term-prim-returns-4 t c =
+    let a = c .before .before .before .before .before .before .before .before .before .args in
+    let x = c .before .before in (
+      trm-found t x (record { off = a .off; place = trm-p t x; to = a .t5 }) (found-single (now (a .f)) (a .k) (trm-p t x) (a .off) (a .i) (a .t5) _ (single-int (now (a .f)) (a .k) (trm-p t x) (a .off) (a .i) (a .t5) _ (sym (c .before .before .head-of .ensures .0) ∙ c .enum-told .given .1)) (trm-inside t x)),
+      trm-low t x,
+      omega (arith, trm-fits t x),
+    )
 
 term-prim-returns-5 : (t : ℕ) → term-prim-lts.Need-returns-5 (term-prim-uses t) (term-prim-at t) term-prim.Post
-term-prim-returns-5 t c = let a = c .before .before .before .before .before .args in (found-single (now (a .f)) (a .k) (a .p) (a .off) (a .i) (a .t5) _ (single-int (now (a .f)) (a .k) (a .p) (a .off) (a .i) (a .t5) _ (sym (c .before .before .head-of .ensures .0) ∙ c .enum-told .given .1)) (c .before .before .before .before .before .pre .1 .2), c .before .before .before .before .before .pre .1 .0, omega (arith, c .before .before .before .before .before .pre .1 .1))
+term-prim-returns-5 t c =
+    let a = c .before .before .before .before .before .before .before .before .before .args in
+    let x = c .before .before in (
+      trm-found t x (record { off = a .off; place = trm-p t x; to = a .t5 }) (found-single (now (a .f)) (a .k) (trm-p t x) (a .off) (a .i) (a .t5) _ (single-ptr (now (a .f)) (a .k) (trm-p t x) (a .off) (a .i) (a .t5) _ _ (sym (c .before .before .head-of .ensures .0) ∙ c .enum-told2 .given .1)) (trm-inside t x)),
+      trm-low t x,
+      omega (arith, trm-fits t x),
+    )
 
 term-prim-returns-6 : (t : ℕ) → term-prim-lts.Need-returns-6 (term-prim-uses t) (term-prim-at t) term-prim.Post
-term-prim-returns-6 t c = let a = c .before .before .before .before .before .args in (found-single (now (a .f)) (a .k) (a .p) (a .off) (a .i) (a .t5) _ (single-ptr (now (a .f)) (a .k) (a .p) (a .off) (a .i) (a .t5) _ _ (sym (c .before .before .head-of .ensures .0) ∙ c .enum-told2 .given .1)) (c .before .before .before .before .before .pre .1 .2), c .before .before .before .before .before .pre .1 .0, omega (arith, c .before .before .before .before .before .pre .1 .1))
+term-prim-returns-6 t c = absurd (subst NoStruct (sym (c .before .before .head-of .ensures .0) ∙ c .enum-told3 .given .1) (trm-core t (c .before .before) .1))
 
 pub +struct-prim+term-prim-spec : {M : Type 1} → statement M
 +struct-prim+term-prim-spec = close μ-struct-prim μ-term-prim (λ t. struct-prim-lts.spec (struct-prim-uses t)
@@ -269,7 +332,6 @@ pub +struct-prim+term-prim-spec : {M : Type 1} → statement M
     (λ c κs. search needs)
     (λ c κs. search needs)
     (struct-prim-add-if1 t)
-    (λ c κs. search needs)
     (struct-prim-add-term-prim t)
     (struct-prim-sub-term-prim t)
     (struct-prim-term-prim-requires t)
@@ -285,9 +347,14 @@ pub +struct-prim+term-prim-spec : {M : Type 1} → statement M
     term-prim.Post
     (λ c κs. search needs)
     (λ c. search needs)
+    (λ c. search needs)
+    (λ c κs. search needs)
+    (term-prim-struct-prim-requires t)
+    (λ c. search needs)
+    (λ c κs. search needs)
+    (λ c. search needs)
     (λ c κs. search needs)
     (term-prim-returns t)
-    (λ c κs. search needs)
     (λ c. search needs)
     (term-prim-mul-term-prim t)
     (term-prim-add-term-prim t)
@@ -295,11 +362,8 @@ pub +struct-prim+term-prim-spec : {M : Type 1} → statement M
     (term-prim-term-prim-requires t)
     (λ c. search needs)
     (λ c. search needs)
-    (term-prim-arguments-requires t)
-    (term-prim-struct-prim-requires t)
+    (λ c. search needs)
     (term-prim-returns-2 t)
-    (λ c. search needs)
-    (λ c. search needs)
     (term-prim-returns-3 t)
     (term-prim-returns-4 t)
     (term-prim-returns-5 t)
