@@ -10,8 +10,12 @@ ghost use Rattle.rules.specs.Decode.{moduleOf};
 ghost use Rattle.terms.specs.Extents.{Terms};
 ghost use Rattle.functions.specs.Functions.{placeLimit, Known, functionAt};
 ghost use Rattle.judgment.specs.Kinds.{callAt};
+ghost use Rattle.judgment.specs.Types.{Described};
 ghost use Rattle.judgment.specs.Calls.{wordLimit, mostGiven, Given, callRegion, callRegions, callArgument, callArguments, callResult, callParts};
-use crate::registers::is_register;
+use crate::types::OPERANDS;
+use crate::types::entry;
+use crate::types::kind_in;
+use crate::types::term_in;
 use functions::readers::region_term;
 use functions::readers::register_term;
 use rules::Record;
@@ -70,25 +74,42 @@ fn call_regions(f: &[u8], n: usize, h: usize, e: usize, to: &[u8], x: Record) ->
 }
 
 // Argument i is a register of the type of the callee's register i.
-fn call_argument(f: &[u8], n: usize, h: usize, e: usize, to: &[u8], y: Record, i: usize) -> bool
-    requires { ⌜ Terms (now f) n ⌝ ∗ ⌜ h < placeLimit ⌝ ∗ ⌜ e < placeLimit ⌝ }
+fn call_argument(
+    f: &[u8],
+    n: usize,
+    h: usize,
+    types: &[usize; OPERANDS],
+    e: usize,
+    to: &[u8],
+    y: Record,
+    i: usize,
+) -> bool
+    requires { ⌜ Terms (now f) n ⌝ ∗ ⌜ h < placeLimit ⌝ ∗ ⌜ e < placeLimit ⌝ ∗ ⌜ Described (now f) h (now types) ⌝ }
     ensures { λ s. ⌜ s ≡ callArgument (now (f .entry)) h e (now (to .entry)) y i ⌝ }
 {
     let a = walk::file::entry_of(y, i);
-    let s = register_term(f, h, a);
+    let v = entry(f, n, h, types, a);
     let t = register_term(f, e, i);
-    is_register(f, h, a) & equality::equal_under(f, n, s, t, to)
+    (kind_in(v) != 0) & equality::equal_under(f, n, term_in(v), t, to)
 }
 
-fn call_arguments(f: &[u8], n: usize, h: usize, e: usize, to: &[u8], y: Record) -> bool
-    requires { ⌜ Terms (now f) n ⌝ ∗ ⌜ h < placeLimit ⌝ ∗ ⌜ e < placeLimit ⌝ }
+fn call_arguments(
+    f: &[u8],
+    n: usize,
+    h: usize,
+    types: &[usize; OPERANDS],
+    e: usize,
+    to: &[u8],
+    y: Record,
+) -> bool
+    requires { ⌜ Terms (now f) n ⌝ ∗ ⌜ h < placeLimit ⌝ ∗ ⌜ e < placeLimit ⌝ ∗ ⌜ Described (now f) h (now types) ⌝ }
     ensures { λ s. ⌜ s ≡ callArguments (now (f .entry)) h e (now (to .entry)) y ⌝ }
 {
     let z = walk::file::record_at(f, e);
     let count = walk::file::parameters_of(z);
     let mut i = 0;
     while i < count {
-        if call_argument(f, n, h, e, to, y, i) {
+        if call_argument(f, n, h, types, e, to, y, i) {
             i = i + 1;
         } else {
             return false;
@@ -98,24 +119,41 @@ fn call_arguments(f: &[u8], n: usize, h: usize, e: usize, to: &[u8], y: Record) 
 }
 
 // The result goes into a register of the return type.
-fn call_result(f: &[u8], n: usize, h: usize, e: usize, to: &[u8], x: Record) -> bool
-    requires { ⌜ Terms (now f) n ⌝ ∗ ⌜ h < placeLimit ⌝ ∗ ⌜ e < placeLimit ⌝ }
+fn call_result(
+    f: &[u8],
+    n: usize,
+    h: usize,
+    types: &[usize; OPERANDS],
+    e: usize,
+    to: &[u8],
+    x: Record,
+) -> bool
+    requires { ⌜ Terms (now f) n ⌝ ∗ ⌜ h < placeLimit ⌝ ∗ ⌜ e < placeLimit ⌝ ∗ ⌜ Described (now f) h (now types) ⌝ }
     ensures { λ s. ⌜ s ≡ callResult (now (f .entry)) h e (now (to .entry)) x ⌝ }
 {
     let z = walk::file::record_at(f, e);
     let u = walk::file::return_of(z);
     let a = x.a as usize;
-    let t = register_term(f, h, a);
-    is_register(f, h, a) & equality::equal_under(f, n, t, u, to)
+    let v = entry(f, n, h, types, a);
+    (kind_in(v) != 0) & equality::equal_under(f, n, term_in(v), u, to)
 }
 
 // What a call asks of its result, its regions and its arguments.
-fn call_parts(f: &[u8], n: usize, h: usize, e: usize, to: &[u8], x: Record, y: Record) -> bool
-    requires { ⌜ Terms (now f) n ⌝ ∗ ⌜ h < placeLimit ⌝ ∗ ⌜ e < placeLimit ⌝ }
+fn call_parts(
+    f: &[u8],
+    n: usize,
+    h: usize,
+    types: &[usize; OPERANDS],
+    e: usize,
+    to: &[u8],
+    x: Record,
+    y: Record,
+) -> bool
+    requires { ⌜ Terms (now f) n ⌝ ∗ ⌜ h < placeLimit ⌝ ∗ ⌜ e < placeLimit ⌝ ∗ ⌜ Described (now f) h (now types) ⌝ }
     ensures { λ s. ⌜ s ≡ callParts (now (f .entry)) h e (now (to .entry)) x y ⌝ }
 {
-    call_result(f, n, h, e, to, x)
-        & (call_regions(f, n, h, e, to, x) & call_arguments(f, n, h, e, to, y))
+    call_result(f, n, h, types, e, to, x)
+        & (call_regions(f, n, h, e, to, x) & call_arguments(f, n, h, types, e, to, y))
 }
 
 // 33: the call at record r.
@@ -126,9 +164,10 @@ pub fn call(
     c: usize,
     starts: &[usize; CALLEES],
     h: usize,
+    types: &[usize; OPERANDS],
     r: usize,
 ) -> bool
-    requires { ⌜ Known (now f) n k c (now starts) ⌝ ∗ ⌜ h < placeLimit ⌝ ∗ ⌜ r < 2 ^ 32 ⌝ }
+    requires { ⌜ Known (now f) n k c (now starts) ⌝ ∗ ⌜ h < placeLimit ⌝ ∗ ⌜ r < 2 ^ 32 ⌝ ∗ ⌜ Described (now f) h (now types) ⌝ }
     ensures { λ s. ⌜ s ≡ does (decTyped (moduleOf (now (f .entry))) (functionAt (now (f .entry)) h) (callAt (now (f .entry)) r)) ⌝ }
 {
     let x = walk::file::record_at(f, r);
@@ -138,5 +177,5 @@ pub fn call(
     let z = walk::file::record_at(f, e);
     let p = z.a as usize;
     let bytes = given(x.d as usize, p);
-    (g < c) & call_parts(f, n, h, e, &bytes[..p], x, y)
+    (g < c) & call_parts(f, n, h, types, e, &bytes[..p], x, y)
 }

@@ -10,27 +10,30 @@ ghost use Rattle.rules.specs.Decode.{moduleOf, controlOf};
 ghost use Rattle.terms.specs.Extents.{Terms};
 ghost use Rattle.functions.specs.Functions.{placeLimit, Known, functionAt};
 ghost use Rattle.judgment.specs.Kinds.{callAt};
+ghost use Rattle.judgment.specs.Types.{Described};
 use crate::registers::has_width;
 use crate::registers::is_integer;
-use crate::registers::is_register;
-use functions::readers::register_term;
+use crate::types::OPERANDS;
+use crate::types::entry;
+use crate::types::kind_in;
+use crate::types::term_in;
 use rules::Record;
 use walk::limits::CALLEES;
 
 // 29: byte c of the form into i8 a.
-pub fn input(f: &[u8], n: usize, h: usize, a: usize, c: usize) -> bool
-    requires { ⌜ Terms (now f) n ⌝ ∗ ⌜ h < placeLimit ⌝ }
+pub fn input(f: &[u8], n: usize, h: usize, types: &[usize; OPERANDS], a: usize, c: usize) -> bool
+    requires { ⌜ Terms (now f) n ⌝ ∗ ⌜ h < placeLimit ⌝ ∗ ⌜ Described (now f) h (now types) ⌝ }
     ensures { λ s. ⌜ s ≡ does (decTyped (moduleOf (now (f .entry))) (functionAt (now (f .entry)) h) (input a c)) ⌝ }
 {
-    has_width(f, n, h, 4, c) & has_width(f, n, h, 1, a)
+    has_width(f, n, h, types, 4, c) & has_width(f, n, h, types, 1, a)
 }
 
 // 30: i8 b to the output.
-pub fn output(f: &[u8], n: usize, h: usize, b: usize) -> bool
-    requires { ⌜ Terms (now f) n ⌝ ∗ ⌜ h < placeLimit ⌝ }
+pub fn output(f: &[u8], n: usize, h: usize, types: &[usize; OPERANDS], b: usize) -> bool
+    requires { ⌜ Terms (now f) n ⌝ ∗ ⌜ h < placeLimit ⌝ ∗ ⌜ Described (now f) h (now types) ⌝ }
     ensures { λ s. ⌜ s ≡ does (decTyped (moduleOf (now (f .entry))) (functionAt (now (f .entry)) h) (output b)) ⌝ }
 {
-    has_width(f, n, h, 1, b)
+    has_width(f, n, h, types, 1, b)
 }
 
 // d is an instruction.
@@ -50,22 +53,22 @@ pub fn jump(f: &[u8], h: usize, d: u32) -> bool
 }
 
 // 32: to d if integer a is not zero.
-pub fn branch(f: &[u8], n: usize, h: usize, a: usize, d: u32) -> bool
-    requires { ⌜ Terms (now f) n ⌝ ∗ ⌜ h < placeLimit ⌝ }
+pub fn branch(f: &[u8], n: usize, h: usize, types: &[usize; OPERANDS], a: usize, d: u32) -> bool
+    requires { ⌜ Terms (now f) n ⌝ ∗ ⌜ h < placeLimit ⌝ ∗ ⌜ Described (now f) h (now types) ⌝ }
     ensures { λ s. ⌜ s ≡ does (decTyped (moduleOf (now (f .entry))) (functionAt (now (f .entry)) h) (branch a d)) ⌝ }
 {
-    is_integer(f, n, h, a) & is_target(f, h, d)
+    is_integer(f, n, h, types, a) & is_target(f, h, d)
 }
 
 // 34: a is returned.
-pub fn returned(f: &[u8], n: usize, h: usize, a: usize) -> bool
-    requires { ⌜ Terms (now f) n ⌝ ∗ ⌜ h < placeLimit ⌝ }
+pub fn returned(f: &[u8], n: usize, h: usize, types: &[usize; OPERANDS], a: usize) -> bool
+    requires { ⌜ Terms (now f) n ⌝ ∗ ⌜ h < placeLimit ⌝ ∗ ⌜ Described (now f) h (now types) ⌝ }
     ensures { λ s. ⌜ s ≡ does (decTyped (moduleOf (now (f .entry))) (functionAt (now (f .entry)) h) (return a)) ⌝ }
 {
     let x = walk::file::record_at(f, h);
     let u = walk::file::return_of(x);
-    let t = register_term(f, h, a);
-    is_register(f, h, a) & equality::equal(f, n, t, u)
+    let e = entry(f, n, h, types, a);
+    (kind_in(e) != 0) & equality::equal(f, n, term_in(e), u)
 }
 
 // The instruction at record r, with this record, keeps the rule of its kind.
@@ -76,20 +79,21 @@ pub fn control(
     c: usize,
     starts: &[usize; CALLEES],
     h: usize,
+    types: &[usize; OPERANDS],
     r: usize,
 ) -> bool
-    requires { ⌜ Known (now f) n k c (now starts) ⌝ ∗ ⌜ h < placeLimit ⌝ ∗ ⌜ r < 2 ^ 32 ⌝ }
+    requires { ⌜ Known (now f) n k c (now starts) ⌝ ∗ ⌜ h < placeLimit ⌝ ∗ ⌜ r < 2 ^ 32 ⌝ ∗ ⌜ Described (now f) h (now types) ⌝ }
     ensures { λ s. ⌜ s ≡ does (decTyped (moduleOf (now (f .entry))) (functionAt (now (f .entry)) h) (controlOf (recordOf (now (f .entry)) r) (callAt (now (f .entry)) r))) ⌝ }
 {
     let x = walk::file::record_at(f, r);
     let kind = x.kind;
     let a = x.a as usize;
     match kind {
-        29 => input(f, n, h, a, x.c as usize),
-        30 => output(f, n, h, x.b as usize),
+        29 => input(f, n, h, types, a, x.c as usize),
+        30 => output(f, n, h, types, x.b as usize),
         31 => jump(f, h, x.d),
-        32 => branch(f, n, h, a, x.d),
-        33 => crate::calls::call(f, n, k, c, starts, h, r),
-        _ => returned(f, n, h, a),
+        32 => branch(f, n, h, types, a, x.d),
+        33 => crate::calls::call(f, n, k, c, starts, h, types, r),
+        _ => returned(f, n, h, types, a),
     }
 }

@@ -4,3 +4,4 @@ pub mod arithmetic;
 pub mod calls;
 pub mod control;
 pub mod registers;
+pub mod types;

@@ -1,10 +1,18 @@
 // What the rules ask of the registers of the function with record 7 at h.
 ghost use mathlib.Core.Path.{_≡_};
 ghost use Prim.Native.Nat.{_<_};
-ghost use Rattle.rules.specs.Types.{form, numberOf, regionOf};
+ghost use Rattle.rules.specs.Types.{regionOf};
 ghost use Rattle.terms.specs.Extents.{Terms};
 ghost use Rattle.functions.specs.Functions.{placeLimit, functionAt};
+ghost use Rattle.judgment.specs.Types.{Described};
 ghost use Rattle.judgment.specs.Registers.{isRegister, isInteger, isPointer, hasWidth, sameTypes, pointsTo, together};
+use crate::types::OPERANDS;
+use crate::types::entry;
+use crate::types::kind_in;
+use crate::types::number_in;
+use crate::types::region_in;
+use crate::types::target_in;
+use crate::types::term_in;
 use functions::readers::register_term;
 
 // a is a register.
@@ -15,23 +23,7 @@ pub fn is_register(f: &[u8], h: usize, a: usize) -> bool
     a < c as usize
 }
 
-// The form of its type; its width, where it is an integer; its region, where it is a pointer.
-pub fn form_of(f: &[u8], n: usize, h: usize, a: usize) -> usize
-    requires { ⌜ Terms (now f) n ⌝ ∗ ⌜ h < placeLimit ⌝ }
-    ensures { λ r. ⌜ r ≡ form (functionAt (now (f .entry)) h .registerType a) ⌝ }
-{
-    let t = register_term(f, h, a);
-    terms::form(f, n, t)
-}
-
-pub fn number_of(f: &[u8], n: usize, h: usize, a: usize) -> usize
-    requires { ⌜ Terms (now f) n ⌝ ∗ ⌜ h < placeLimit ⌝ }
-    ensures { λ r. ⌜ r ≡ numberOf (functionAt (now (f .entry)) h .registerType a) ⌝ }
-{
-    let t = register_term(f, h, a);
-    terms::number(f, n, t)
-}
-
+// The region of its type, where it is a pointer.
 pub fn region_of(f: &[u8], n: usize, h: usize, a: usize) -> u8
     requires { ⌜ Terms (now f) n ⌝ ∗ ⌜ h < placeLimit ⌝ }
     ensures { λ r. ⌜ r ≡ regionOf (functionAt (now (f .entry)) h .registerType a) .number ⌝ }
@@ -41,56 +33,78 @@ pub fn region_of(f: &[u8], n: usize, h: usize, a: usize) -> u8
     v.0
 }
 
-pub fn is_integer(f: &[u8], n: usize, h: usize, a: usize) -> bool
-    requires { ⌜ Terms (now f) n ⌝ ∗ ⌜ h < placeLimit ⌝ }
+pub fn is_integer(f: &[u8], n: usize, h: usize, types: &[usize; OPERANDS], a: usize) -> bool
+    requires { ⌜ Terms (now f) n ⌝ ∗ ⌜ h < placeLimit ⌝ ∗ ⌜ Described (now f) h (now types) ⌝ }
     ensures { λ b. ⌜ b ≡ isInteger (functionAt (now (f .entry)) h) a ⌝ }
 {
-    is_register(f, h, a) & (form_of(f, n, h, a) == 1)
+    let e = entry(f, n, h, types, a);
+    kind_in(e) == 1
 }
 
-pub fn is_pointer(f: &[u8], n: usize, h: usize, a: usize) -> bool
-    requires { ⌜ Terms (now f) n ⌝ ∗ ⌜ h < placeLimit ⌝ }
+pub fn is_pointer(f: &[u8], n: usize, h: usize, types: &[usize; OPERANDS], a: usize) -> bool
+    requires { ⌜ Terms (now f) n ⌝ ∗ ⌜ h < placeLimit ⌝ ∗ ⌜ Described (now f) h (now types) ⌝ }
     ensures { λ b. ⌜ b ≡ isPointer (functionAt (now (f .entry)) h) a ⌝ }
 {
-    is_register(f, h, a) & (form_of(f, n, h, a) == 2)
+    let e = entry(f, n, h, types, a);
+    kind_in(e) == 2
 }
 
 // a is the integer of w bytes.
-pub fn has_width(f: &[u8], n: usize, h: usize, w: usize, a: usize) -> bool
-    requires { ⌜ Terms (now f) n ⌝ ∗ ⌜ h < placeLimit ⌝ }
+pub fn has_width(
+    f: &[u8],
+    n: usize,
+    h: usize,
+    types: &[usize; OPERANDS],
+    w: usize,
+    a: usize,
+) -> bool
+    requires { ⌜ Terms (now f) n ⌝ ∗ ⌜ h < placeLimit ⌝ ∗ ⌜ Described (now f) h (now types) ⌝ }
     ensures { λ b. ⌜ b ≡ hasWidth (functionAt (now (f .entry)) h) w a ⌝ }
 {
-    let t = register_term(f, h, a);
-    is_register(f, h, a) & terms::is_integer(f, n, t, w)
+    let e = entry(f, n, h, types, a);
+    (kind_in(e) == 1) & (number_in(e) == w)
 }
 
 // a and b have equal types.
-pub fn same_types(f: &[u8], n: usize, h: usize, a: usize, b: usize) -> bool
-    requires { ⌜ Terms (now f) n ⌝ ∗ ⌜ h < placeLimit ⌝ }
+pub fn same_types(
+    f: &[u8],
+    n: usize,
+    h: usize,
+    types: &[usize; OPERANDS],
+    a: usize,
+    b: usize,
+) -> bool
+    requires { ⌜ Terms (now f) n ⌝ ∗ ⌜ h < placeLimit ⌝ ∗ ⌜ Described (now f) h (now types) ⌝ }
     ensures { λ s. ⌜ s ≡ sameTypes (functionAt (now (f .entry)) h) a b ⌝ }
 {
-    let t = register_term(f, h, a);
-    let u = register_term(f, h, b);
-    is_register(f, h, a) & (is_register(f, h, b) & equality::equal(f, n, t, u))
+    let d = entry(f, n, h, types, a);
+    let e = entry(f, n, h, types, b);
+    (kind_in(d) != 0) & ((kind_in(e) != 0) & equality::equal(f, n, term_in(d), term_in(e)))
 }
 
 // p points to the type of v.
-pub fn points_to(f: &[u8], n: usize, h: usize, p: usize, v: usize) -> bool
-    requires { ⌜ Terms (now f) n ⌝ ∗ ⌜ h < placeLimit ⌝ }
+pub fn points_to(
+    f: &[u8],
+    n: usize,
+    h: usize,
+    types: &[usize; OPERANDS],
+    p: usize,
+    v: usize,
+) -> bool
+    requires { ⌜ Terms (now f) n ⌝ ∗ ⌜ h < placeLimit ⌝ ∗ ⌜ Described (now f) h (now types) ⌝ }
     ensures { λ b. ⌜ b ≡ pointsTo (functionAt (now (f .entry)) h) p v ⌝ }
 {
-    let t = register_term(f, h, p);
-    let u = register_term(f, h, v);
-    let target = terms::inner(f, n, t);
-    (is_register(f, h, p) & is_register(f, h, v))
-        & ((terms::form(f, n, t) == 2) & equality::equal(f, n, target, u))
+    let d = entry(f, n, h, types, p);
+    let e = entry(f, n, h, types, v);
+    ((kind_in(d) == 2) & (kind_in(e) != 0)) & equality::equal(f, n, target_in(d), term_in(e))
 }
 
 // a and b are pointers into one region.
-pub fn together(f: &[u8], n: usize, h: usize, a: usize, b: usize) -> bool
-    requires { ⌜ Terms (now f) n ⌝ ∗ ⌜ h < placeLimit ⌝ }
+pub fn together(f: &[u8], n: usize, h: usize, types: &[usize; OPERANDS], a: usize, b: usize) -> bool
+    requires { ⌜ Terms (now f) n ⌝ ∗ ⌜ h < placeLimit ⌝ ∗ ⌜ Described (now f) h (now types) ⌝ }
     ensures { λ s. ⌜ s ≡ together (functionAt (now (f .entry)) h) a b ⌝ }
 {
-    (is_pointer(f, n, h, a) & is_pointer(f, n, h, b))
-        & (region_of(f, n, h, a) == region_of(f, n, h, b))
+    let d = entry(f, n, h, types, a);
+    let e = entry(f, n, h, types, b);
+    ((kind_in(d) == 2) & (kind_in(e) == 2)) & (region_in(d) == region_in(e))
 }

@@ -49,7 +49,7 @@ slice-aggregate-call-parts : tie.Need-slice-aggregate-call-parts
 slice-aggregate-call-parts c = simp length-take (omega (arith, c .before .given .ensures .long))
 
 call-parts-requires : tie.Need-call-parts-requires
-call-parts-requires c κs = let a = c .before .before .before .before .before .before .before .before .before .before .args in let s = start-small (now (a .f)) (c .before .before .before .before .before .before .before .before .before .before .pre .0 .short) (c .before .before .before .before .before .before .before .before .record-at .result .b) in (c .before .before .before .before .before .before .before .before .before .before .pre .0 .counted .terms, (c .before .before .before .before .before .before .before .before .before .before .pre .1 .0, omega (arith, c .before .before .before .before .before .start-of .ensures)))
+call-parts-requires c κs = let a = c .before .before .before .before .before .before .before .before .before .before .args in let s = start-small (now (a .f)) (c .before .before .before .before .before .before .before .before .before .before .pre .0 .short) (c .before .before .before .before .before .before .before .before .record-at .result .b) in (c .before .before .before .before .before .before .before .before .before .before .pre .0 .counted .terms, (c .before .before .before .before .before .before .before .before .before .before .pre .1 .0, (omega (arith, c .before .before .before .before .before .start-of .ensures), c .before .before .before .before .before .before .before .before .before .before .pre .1 .1 .1)))
 
 returns : tie.Need-returns
 returns c = let a = c .before .before .before .before .before .before .before .before .before .before .before .args in let f = now (a .f) in let to = take (c .before .before .before .before .before .record-at3 .result .a) (c .before .before .given .result) in let e = c .before .before .before .before .before .before .start-of .result in let xe = c .before .before .before .before .before .before .before .before .before .record-at .ensures in let at : e ≡ startOf f (Rattle.rules.specs.File.recordOf f (a .r) .b) = c .before .before .before .before .before .before .start-of .ensures ∙ ap (λ (x : Record). startOf f (x .b)) xe in let is : map region to ≡ regionBytes (Rattle.rules.specs.File.recordOf f (a .r)) (functionAt f e .regionParams) = given-regions (c .before .before .before .before .before .before .before .before .before .record-at .result) (c .before .before .before .before .before .record-at3 .result .a) (c .before .before .given .result) (omega arith) (c .before .before .given .ensures) ∙ ap₂ regionBytes xe (ap (λ (z : Record). z .a) (c .before .before .before .before .before .record-at3 .ensures) ∙ sym (regionParams-at f e)) in ap₂ _&&_ (ap₂ ltb (ap (λ (x : Record). x .b) xe) (c .before .before .before .before .before .before .before .before .before .before .before .pre .0 .functions)) (c .call-parts .ensures ∙ ap₂ (λ (x y : Record). callParts f (a .h) e to x y) xe (c .before .before .before .before .before .before .before .before .record-at2 .ensures)) ∙ call-test f (a .h) e to (a .r) is at

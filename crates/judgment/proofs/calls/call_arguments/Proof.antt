@@ -15,10 +15,10 @@ use Rattle.judgment.proofs.calls.call_arguments.Statement.{statement}
 use Rattle.judgment.proofs.calls.call_arguments.Tie as tie
 
 abbrev Inv-loop : tie.InvT-loop
-Inv-loop f n h e to y count i₀ i = (i ≤ count) × ((j : ℕ) → j < i → callArgument f h e to y j ≡ true)
+Inv-loop f n h types e to y count i₀ i = (i ≤ count) × ((j : ℕ) → j < i → callArgument f h e to y j ≡ true)
 
 abbrev μ-loop : tie.MeasureT-loop
-μ-loop f n h e to y count i₀ i = count - i
+μ-loop f n h types e to y count i₀ i = count - i
 
 record-at-requires : tie.Need-record-at-requires Inv-loop μ-loop
 record-at-requires c κs = search needs

@@ -1,27 +1,30 @@
--- `judgment::registers::has_width` meets its contract: by the callees' contracts.
-use mathlib.Core.Path.{ap, ap₂, _∙_}
-use denote.Ref.{now}
+-- `judgment::registers::has_width` meets its contract: by the register's word.
+use mathlib.Core.Path.{ap₂, _∙_}
+use Prim.Native.Nat.{ℕ}
 use mathlib.Core.Bool.{_&&_}
-use Rattle.words.specs.Decide.{does}
-use Rattle.rules.specs.Types.{variable, Tree, int, decTree}
-use Rattle.judgment.specs.Registers.{hasWidth, register-is}
+use lib.Dec.{eqb}
+use Rattle.judgment.specs.Types.{width-in}
 use borrow.Author.Needs.{needs}
 use Rattle.judgment.proofs.registers.has_width.Statement.{statement}
 use Rattle.judgment.proofs.registers.has_width.Tie as tie
 
-register-term-requires : tie.Need-register-term-requires
-register-term-requires c κs = search needs
+entry-requires : tie.Need-entry-requires
+entry-requires c κs = search needs
 
-is-register-requires : tie.Need-is-register-requires
-is-register-requires c κs = search needs
+-- src/registers.rt:65:6
 
-is-integer-requires : tie.Need-is-integer-requires
-is-integer-requires c κs = search needs
+kind-in-requires : tie.Need-kind-in-requires
+kind-in-requires c κs = search needs
+
+-- src/registers.rt:65:26
+
+number-in-requires : tie.Need-number-in-requires
+number-in-requires c κs = search needs
+
+-- src/registers.rt:53:1
 
 returns : tie.Need-returns
-unfolding hasWidth
-returns c = let a = c .before .before .before .before .args in ap₂ _&&_ (c .before .is-register .ensures) (c .is-integer .ensures ∙ ap (λ (T : Tree variable). does (decTree T (int (a .w)))) (register-is (now (a .f)) (a .h) (a .a) (c .before .before .register-term .ensures)))
+returns c = let a = c .before .before .before .before .args in ap₂ (λ (x y : ℕ). eqb x 1 && eqb y (a .w)) (c .before .kind-in .ensures) (c .number-in .ensures) ∙ width-in (c .before .before .entry .ensures) (a .w)
 
 pub has-width-spec : {M : Type 1} → statement M
-has-width-spec =
-    tie.close (tie.spec register-term-requires is-register-requires is-integer-requires returns)
+has-width-spec = tie.close (tie.spec entry-requires kind-in-requires number-in-requires returns)

@@ -1,52 +1,77 @@
--- `judgment::registers::points_to` meets its contract: by the callees' contracts.
-use mathlib.Core.Path.{ap₂, _∙_}
+-- `judgment::registers::points_to` meets its contract: by the registers' words.
+use mathlib.Core.Path.{ap, ap₂, _∙_}
 use Prim.Native.Nat.{ℕ}
-use denote.Ref.{now}
-use mathlib.Core.Bool.{Bool, _&&_}
+use mathlib.Core.Bool.{_&&_, not}
 use lib.Dec.{eqb}
+use borrow.Author.Tests.{eqb-true}
+use denote.Ref.{now}
 use Rattle.words.specs.Decide.{does}
 use Rattle.rules.specs.Types.{variable, Tree, form, inner, decTree}
 use Rattle.rules.specs.Decode.{moduleOf}
 use Rattle.functions.specs.Functions.{functionAt}
-use Rattle.judgment.specs.Registers.{pointsTo, register-is, target-same}
+use Rattle.judgment.specs.Registers.{isRegister, isPointer, pointsTo}
+use Rattle.judgment.specs.Types.{points-in}
 use borrow.Author.Needs.{needs}
 use Rattle.judgment.proofs.registers.points_to.Statement.{statement}
 use Rattle.judgment.proofs.registers.points_to.Tie as tie
 
-register-term-requires : tie.Need-register-term-requires
-register-term-requires c κs = search needs
+entry-requires : tie.Need-entry-requires
+entry-requires c κs = search needs
 
-register-term-requires-2 : tie.Need-register-term-requires-2
-register-term-requires-2 c κs = search needs
+-- src/registers.rt:98:9
 
-inner-requires : tie.Need-inner-requires
-inner-requires c κs = search needs
+entry-requires-2 : tie.Need-entry-requires-2
+entry-requires-2 c κs = search needs
 
-is-register-requires : tie.Need-is-register-requires
-is-register-requires c κs = search needs
+-- src/registers.rt:99:7
 
-is-register-requires-2 : tie.Need-is-register-requires-2
-is-register-requires-2 c κs = search needs
+kind-in-requires : tie.Need-kind-in-requires
+kind-in-requires c κs = search needs
 
-form-requires : tie.Need-form-requires
-form-requires c κs = search needs
+-- src/registers.rt:99:27
+
+kind-in-requires-2 : tie.Need-kind-in-requires-2
+kind-in-requires-2 c κs = search needs
+
+-- src/registers.rt:99:69
+
+target-in-requires : tie.Need-target-in-requires
+target-in-requires c κs = search needs
+
+-- src/registers.rt:99:83
+
+term-in-requires : tie.Need-term-in-requires
+term-in-requires c κs = search needs
+
+-- src/registers.rt:99:47
 
 equal-requires : tie.Need-equal-requires
 equal-requires c κs = search needs
 
+-- src/registers.rt:86:1
+
 returns : tie.Need-returns
-unfolding pointsTo
-returns c = let a = c .before .before .before .before .before .before .before .before .args in let m = moduleOf (now (a .f)) in let F = functionAt (now (a .f)) (a .h) in let p = register-is (now (a .f)) (a .h) (a .p) (c .before .before .before .before .before .before .register-term .ensures) in ap₂ _&&_ (ap₂ _&&_ (c .before .before .before .is-register .ensures) (c .before .before .is-register2 .ensures)) (ap₂ (λ (x : ℕ) (b : Bool). eqb x 2 && b) (c .before .form .ensures) (c .equal .ensures) ∙ target-same (m .term (c .before .before .before .before .before .before .register-term .result)) (m .term (c .before .before .before .before .before .register-term2 .result)) (m .term (c .before .before .before .before .inner .result)) (c .before .before .before .before .inner .ensures .pointer) ∙ ap₂ (λ (T U : Tree variable). eqb (form T) 2 && does (decTree (inner T) U)) p (register-is (now (a .f)) (a .h) (a .v) (c .before .before .before .before .before .register-term2 .ensures)))
+unfolding pointsTo isPointer
+returns c =
+    let a = c .before .before .before .before .before .before .before .before .args in
+    let m = moduleOf (now (a .f)) in
+    let F = functionAt (now (a .f)) (a .h) in
+    ap₂ (λ (x y : _). x && y)
+    (ap₂ _&&_ (ap (λ (x : ℕ). eqb x 2) (c .before .before .before .before .kind-in .ensures) ∙ c .before .before .before .before .before .before .entry .ensures .pointer) (ap (λ (x : ℕ). not (eqb x 0)) (c .before .before .before .kind-in2 .ensures) ∙ c .before .before .before .before .before .entry2 .ensures .register))
+    (c .equal .ensures)
+    ∙ points-in (isRegister F (a .p)) (eqb (form (F .registerType (a .p))) 2) (isRegister F (a .v)) _ (does (decTree (inner (F .registerType (a .p))) (F .registerType (a .v))))
+    (λ q.
+    ap₂ (λ (T U : Tree variable). does (decTree T U)) (ap (λ (t : ℕ). m .term t) (c .before .before .target-in .ensures) ∙ c .before .before .before .before .before .before .entry .ensures .target (eqb-true (form (F .registerType (a .p))) 2 q)) (ap (λ (t : ℕ). m .term t) (c .before .term-in .ensures) ∙ c .before .before .before .before .before .entry2 .ensures .term))
 
 pub points-to-spec : {M : Type 1} → statement M
 points-to-spec =
     tie.close
     (tie.spec
-    register-term-requires
-    register-term-requires-2
-    inner-requires
-    is-register-requires
-    is-register-requires-2
-    form-requires
+    entry-requires
+    entry-requires-2
+    kind-in-requires
+    kind-in-requires-2
+    target-in-requires
+    term-in-requires
     equal-requires
     returns)
