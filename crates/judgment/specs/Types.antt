@@ -66,11 +66,11 @@ pub record Described (f : Bytes) (h : ℕ) (types : List ℕ) : Type 0 where
 
 -- ---- a word made
 
-low : (k n : ℕ) → k < 256 → (k + 256 * n) % 256 ≡ k
-low k n l = omega arith
+pub digit-low : (k n : ℕ) → k < 256 → (k + 256 * n) % 256 ≡ k
+digit-low k n l = omega arith
 
-rest : (k n : ℕ) → k < 256 → (k + 256 * n) / 256 ≡ n
-rest k n l = omega arith
+pub digit-rest : (k n : ℕ) → k < 256 → (k + 256 * n) / 256 ≡ n
+digit-rest k n l = omega arith
 
 there : (b : Bool) (F : ℕ) → 0 < F → not (eqb (cond b F 0) 0) ≡ b
 there true F l = ap not (ne-eqb F 0 (λ e. omega arith))
@@ -114,11 +114,11 @@ module _ (f : Bytes) (h a : ℕ) where
       let n3 = i + 256 * w in
       let n2 = t + 256 * n3 in
       let n1 = r + 256 * n2 in
-      let ek : kindIn e ≡ k = ap (λ (x : ℕ). x % 256) he ∙ low k n1 lk in
-      let er : regionIn e ≡ r = ap (λ (x : ℕ). x / 256 % 256) he ∙ ap (λ (x : ℕ). x % 256) (rest k n1 lk) ∙ low r n2 lr in
-      let et : termIn e ≡ t = ap (λ (x : ℕ). x / 256 / 256 % 256) he ∙ ap (λ (x : ℕ). x / 256 % 256) (rest k n1 lk) ∙ ap (λ (x : ℕ). x % 256) (rest r n2 lr) ∙ low t n3 lt in
-      let ei : targetIn e ≡ i = ap (λ (x : ℕ). x / 256 / 256 / 256 % 256) he ∙ ap (λ (x : ℕ). x / 256 / 256 % 256) (rest k n1 lk) ∙ ap (λ (x : ℕ). x / 256 % 256) (rest r n2 lr) ∙ ap (λ (x : ℕ). x % 256) (rest t n3 lt) ∙ low i w li in
-      let ew : numberIn e ≡ w = ap (λ (x : ℕ). x / 256 / 256 / 256 / 256) he ∙ ap (λ (x : ℕ). x / 256 / 256 / 256) (rest k n1 lk) ∙ ap (λ (x : ℕ). x / 256 / 256) (rest r n2 lr) ∙ ap (λ (x : ℕ). x / 256) (rest t n3 lt) ∙ rest i w li in
+      let ek : kindIn e ≡ k = ap (λ (x : ℕ). x % 256) he ∙ digit-low k n1 lk in
+      let er : regionIn e ≡ r = ap (λ (x : ℕ). x / 256 % 256) he ∙ ap (λ (x : ℕ). x % 256) (digit-rest k n1 lk) ∙ digit-low r n2 lr in
+      let et : termIn e ≡ t = ap (λ (x : ℕ). x / 256 / 256 % 256) he ∙ ap (λ (x : ℕ). x / 256 % 256) (digit-rest k n1 lk) ∙ ap (λ (x : ℕ). x % 256) (digit-rest r n2 lr) ∙ digit-low t n3 lt in
+      let ei : targetIn e ≡ i = ap (λ (x : ℕ). x / 256 / 256 / 256 % 256) he ∙ ap (λ (x : ℕ). x / 256 / 256 % 256) (digit-rest k n1 lk) ∙ ap (λ (x : ℕ). x / 256 % 256) (digit-rest r n2 lr) ∙ ap (λ (x : ℕ). x % 256) (digit-rest t n3 lt) ∙ digit-low i w li in
+      let ew : numberIn e ≡ w = ap (λ (x : ℕ). x / 256 / 256 / 256 / 256) he ∙ ap (λ (x : ℕ). x / 256 / 256 / 256) (digit-rest k n1 lk) ∙ ap (λ (x : ℕ). x / 256 / 256) (digit-rest r n2 lr) ∙ ap (λ (x : ℕ). x / 256) (digit-rest t n3 lt) ∙ digit-rest i w li in
       record {
         register = ap (λ (x : ℕ). not (eqb x 0)) (ek ∙ hk) ∙ there (isRegister F a) (form T) (form-some T);
         integer = ap (λ (x : ℕ). eqb x 1) (ek ∙ hk) ∙ one (isRegister F a) (form T);

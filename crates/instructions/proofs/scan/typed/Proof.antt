@@ -21,19 +21,36 @@ arithmetic-requires : tie.Need-arithmetic-requires
 arithmetic-requires c κs = search needs
 
 memory-requires : tie.Need-memory-requires
-memory-requires c κs = search needs
+memory-requires c κs =
+    let p = c .before .before .before .before .before .before .pre in
+    (p .1 .0, (p .1 .1 .1 .0 .0, (p .1 .1 .0, (p .1 .1 .1 .0 .2, p .1 .1 .1 .1))))
 
 control-requires : tie.Need-control-requires
 control-requires c κs = search needs
 
 returns : tie.Need-returns
-returns c = let a = c .before .before .before .before .before .args in let f = now (a .f) in let m = moduleOf f in let F = functionAt f (a .h) in let xe = c .before .before .record-at .ensures in let e = ap (λ (x : Record). x .kind) xe in c .arithmetic .ensures ∙ ap (λ (i : Instruction). does (decTyped m F i)) (ap arithmeticOf xe ∙ sym (kind-arithmetic f (a .r) (omega (arith, e, c .before .if1 .taken))))
+returns c =
+    let a = c .before .before .before .before .before .args in
+    let f = now (a .f) in
+    let xe = c .before .before .record-at .ensures in
+    let e = ap (λ (x : Record). x .kind) xe in
+    (c .arithmetic .ensures ∙ ap (λ (i : Instruction). does (decTyped (moduleOf f) (functionAt f (a .h)) i)) (ap arithmeticOf xe ∙ sym (kind-arithmetic f (a .r) (omega (arith, e, c .before .if1 .taken)))), c .before .before .before .before .before .pre .1 .1 .1 .1)
 
 returns-2 : tie.Need-returns-2
-returns-2 c = let a = c .before .before .before .before .before .before .args in let f = now (a .f) in let m = moduleOf f in let F = functionAt f (a .h) in let xe = c .before .before .before .record-at .ensures in let e = ap (λ (x : Record). x .kind) xe in c .memory .ensures ∙ ap (λ (i : Instruction). does (decTyped m F i)) (ap memoryOf xe ∙ sym (kind-memory f (a .r) (omega (arith, e, c .before .before .if1 .left)) (omega (arith, e, c .before .if2 .taken))))
+returns-2 c =
+    let a = c .before .before .before .before .before .before .before .args in
+    let f = now (a .f) in
+    let xe = c .before .before .before .before .record-at .ensures in
+    let e = ap (λ (x : Record). x .kind) xe in
+    (c .memory .ensures .0 ∙ ap (λ (i : Instruction). does (decTyped (moduleOf f) (functionAt f (a .h)) i)) (ap memoryOf xe ∙ sym (kind-memory f (a .r) (omega (arith, e, c .before .before .before .if1 .left)) (omega (arith, e, c .before .before .if2 .taken)))), c .memory .ensures .1)
 
 returns-3 : tie.Need-returns-3
-returns-3 c = let a = c .before .before .before .before .before .before .args in let f = now (a .f) in let m = moduleOf f in let F = functionAt f (a .h) in let xe = c .before .before .before .record-at .ensures in let e = ap (λ (x : Record). x .kind) xe in c .control .ensures ∙ ap (λ (i : Instruction). does (decTyped m F i)) (sym (kind-control f (a .r) (omega (arith, e, c .before .if2 .left))))
+returns-3 c =
+    let a = c .before .before .before .before .before .before .args in
+    let f = now (a .f) in
+    let xe = c .before .before .before .record-at .ensures in
+    let e = ap (λ (x : Record). x .kind) xe in
+    (c .control .ensures ∙ ap (λ (i : Instruction). does (decTyped (moduleOf f) (functionAt f (a .h)) i)) (sym (kind-control f (a .r) (omega (arith, e, c .before .if2 .left)))), c .before .before .before .before .before .before .pre .1 .1 .1 .1)
 
 pub typed-spec : {M : Type 1} → statement M
 typed-spec =
