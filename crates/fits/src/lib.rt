@@ -1,14 +1,18 @@
 // Refusal 4, record by record: what a record of each kind may hold. Each function is the definition of the same name in rules'
 // specs/Records.antt, where w is the walk before the record, and end and starts are what is known of the whole file.
 ghost use mathlib.Core.Path.{_≡_};
-ghost use mathlib.Core.Bool.{cond};
+ghost use mathlib.Core.Bool.{cond, _&&_};
 ghost use Prim.Native.Nat.{_<_};
 ghost use lib.Dec.{eqb};
 ghost use Rattle.rules.specs.File.{isTerm, kindName, kindFunction};
 ghost use Rattle.rules.specs.Walk.{whole, namesEnd, isEnd};
 ghost use Rattle.rules.specs.Records.{isFiller, integerFits, pointerFits, arrayFits, structFits, termFits, nameFits, headRanges, functionFits, listFits, regionBytesFit, calleeFits, instructionFits, argumentsFit, fits, endFits};
+ghost use Rattle.operands.specs.Limits.{belowLimits};
+ghost use Rattle.walk.specs.Run.{countedOnly};
 ghost use Rattle.walk.specs.Scan.{callees};
 ghost use Rattle.walk.specs.Tables.{startsOf};
+use operands::CLASS_COUNT;
+use operands::below_limits;
 use operands::classes;
 use operands::four;
 use operands::four_loose;
@@ -39,6 +43,7 @@ use walk::limits::REGIONS;
 use walk::limits::REGISTERS;
 use walk::limits::SIZE_LIMIT;
 use walk::limits::STRUCT;
+use walk::run::counted_only;
 
 // ---- where a table ends
 
@@ -246,6 +251,13 @@ fn instruction_fits(f: &[u8], starts: &[usize; CALLEES], end: Walk, w: Walk, x: 
                     false,
                     regions,
                 )))
+}
+
+// An instruction that the walk counts and no more, with so many to come, whose operands are below their limits.
+pub fn plainly_fits(limits: &[usize; CLASS_COUNT], left: usize, x: Record) -> bool
+    ensures { λ b. ⌜ b ≡ countedOnly (x .kind) left && belowLimits (now (limits .entry)) x ⌝ }
+{
+    counted_only(x.kind, left) & below_limits(limits, x)
 }
 
 fn arguments_fit(f: &[u8], starts: &[usize; CALLEES], end: Walk, w: Walk, x: Record) -> bool

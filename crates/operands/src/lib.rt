@@ -6,6 +6,7 @@ ghost use Rattle.rules.specs.File.{firstArithmetic};
 ghost use Rattle.rules.specs.Operands.{classesOf, operandFits};
 ghost use Rattle.rules.specs.Records.{slot, four, seven, loose, fourLoose, sevenLoose};
 ghost use Rattle.operands.specs.Classes.{Digits};
+ghost use Rattle.operands.specs.Limits.{limitsOf, limitIn, belowLimits};
 use rules::Record;
 use walk::limits::FIRST_INSTRUCTION;
 
@@ -92,6 +93,46 @@ pub fn operand_fits(
         | ((((class == FUNCTION) & function_there) | ((class == TARGET) & (v < instructions)))
             | (((class == OPERATION) & (v <= LAST_OPERATION))
                 | ((class == ANY) | ((class == REGIONS) & regions_right))))
+}
+
+// For each class the number that its values are below. 0 for those that need another test.
+pub const CLASS_COUNT: usize = 8;
+
+pub fn limits(registers: usize, instructions: usize) -> [usize; CLASS_COUNT]
+    ensures { λ r. ⌜ r ≡ limitsOf registers instructions ⌝ }
+{
+    [
+        1,
+        registers,
+        0,
+        instructions,
+        LAST_OPERATION + 1,
+        4294967296,
+        0,
+        0,
+    ]
+}
+
+fn limit(limits: &[usize; CLASS_COUNT], class: usize) -> usize
+    ensures { λ r. ⌜ r ≡ limitIn (now (limits .entry)) class ⌝ }
+{
+    if class < CLASS_COUNT {
+        limits[class]
+    } else {
+        0
+    }
+}
+
+// The operands of x are below the limits of their classes: where they are, they fit.
+pub fn below_limits(limits: &[usize; CLASS_COUNT], x: Record) -> bool
+    ensures { λ b. ⌜ b ≡ belowLimits (now (limits .entry)) x ⌝ }
+{
+    let k = classes(x.kind);
+    let a = limit(limits, k % 8);
+    let b = limit(limits, k / 8 % 8);
+    let c = limit(limits, k / 64 % 8);
+    let d = limit(limits, k / 512);
+    (((x.a as usize) < a) & ((x.b as usize) < b)) & (((x.c as usize) < c) & ((x.d as usize) < d))
 }
 
 pub fn slot(v: usize, j: usize, n: usize, lim: usize) -> bool

@@ -1,20 +1,24 @@
 -- How the loop over the records shows its result: a record fails, the file ends too soon, or neither. Assumes nothing.
-use mathlib.Core.Path.{_≡_, sym, ap, _∙_}
-use mathlib.Core.Bool.{Bool, true, false}
-use Prim.Native.Nat.{ℕ, _+_, _<_}
+use mathlib.Core.Path.{_≡_, refl, sym, ap, _∙_}
+use mathlib.Core.Bool.{Bool, true, false, not, _&&_}
+use Prim.Native.Nat.{ℕ, _+_, _-_, _<_}
+use lib.Dec.{ltb, eqb}
 use native.Mathlib.Omega.{arith}
 use borrow.Author.Count.{below-more}
 use Rattle.words.specs.Bytes.{Bytes}
+use Rattle.words.specs.Choose.{both, both-of}
 use Rattle.words.specs.First.{first}
 use Rattle.words.specs.FirstLaws.{first-is}
-use Rattle.rules.specs.File.{records, recordOf}
-use Rattle.rules.specs.Walk.{scan, whole}
-use Rattle.rules.specs.Records.{isFiller, fitsIn, fits, endFits, recordTest}
+use Rattle.rules.specs.File.{records, recordOf, isInstruction, kindCall}
+use Rattle.rules.specs.Walk.{to, scan, whole}
+use Rattle.rules.specs.Records.{isFiller, calleeFits, regionBytesFit, instructionFits, fitsIn, fits, endFits, recordTest}
 use Rattle.rules.specs.declared.Record.{Record}
 use Rattle.rules.specs.declared.Walk.{Walk}
-use Rattle.rules.specs.declared.Phase.the-variants.{Filler}
+use Rattle.rules.specs.declared.Phase.the-variants.{Code, Filler}
 use Rattle.fits.specs.Phases.{fits-in}
 use Rattle.walk.specs.Scan.{inFiller, in-filler, next-filler, walk-more}
+use Rattle.walk.specs.Run.{countedOnly, Run}
+use Rattle.operands.specs.Limits.{limitsOf, belowLimits, limits-fit}
 use Rattle.typing.specs.Walk.{test-at, test-end}
 
 module _ (f : Bytes) {n : ℕ} (hn : n ≡ records f) {r : ℕ} {w : Walk} (hw : w ≡ scan f r .walk) where
@@ -66,3 +70,18 @@ module _ (f : Bytes) {n : ℕ} (hn : n ≡ records f) {r : ℕ} (at : Filled f r
     phase = rw (walk-more, next-filler (scan f r .walk) (recordOf f r) r (at .phase)) (at .phase);
     before = below-more _ r (at .before) e;
   }
+
+-- ---- instructions in a row
+
+-- one that the walk counts and no more, and whose operands are below their limits, fits
+pub plain-test : (f : Bytes) {n : ℕ} → n ≡ records f → {r e : ℕ} (left : ℕ) {w : Walk} → Run f n w r e → w .phase ≡ Code → {x : Record} → x ≡ recordOf f e
+    → countedOnly (x .kind) left && belowLimits (limitsOf (w .registers) (w .instructions)) x ≡ true → recordTest f e ≡ true
+unfolding fitsIn instructionFits
+plain-test f {n} hn {r} {e} left {w} a p {x} hx h =
+    let v = to w (w .phase) (w .left - (e - r)) in
+    let s = both (countedOnly (x .kind) left) (belowLimits (limitsOf (w .registers) (w .instructions)) x) h in
+    let t = both (ltb 1 left) (not (eqb (x .kind) kindCall) && isInstruction (x .kind)) (s .0) in
+    let u = both (not (eqb (x .kind) kindCall)) (isInstruction (x .kind)) (t .1) in
+    record-test f hn {r = e} {w = v} (a .walk) {x = x} hx {b = fits f (whole f) v x} refl (a .below)
+    ∙ fits-in f (whole f) v x p
+    ∙ both-of (u .1) (limits-fit (w .registers) (w .instructions) (calleeFits (whole f) x) (regionBytesFit f (whole f) v x) x (s .1))

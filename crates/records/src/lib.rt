@@ -1,15 +1,19 @@
 // Refusal 4: each record against what the walk over the file says that it is to be; and refusals 1 to 4 together. Each contract is an
 // equation with a definition of rules' specs/ or of specs/, for every byte slice.
 ghost use mathlib.Core.Path.{_≡_};
-ghost use Prim.Native.Nat.{_+_, _≤_};
+ghost use Prim.Native.Nat.{ℕ, _+_, _<_, _≤_};
+ghost use mathlib.Core.Bool.{true};
 ghost use Rattle.words.specs.First.{first};
 ghost use Rattle.rules.specs.File.{records};
+ghost use Rattle.rules.specs.Walk.{scan};
 ghost use Rattle.rules.specs.Records.{recordTest};
+ghost use Rattle.walk.specs.Run.{Run};
 ghost use Rattle.walk.specs.Tables.{tablesOf};
 ghost use Rattle.records.specs.Outcome.{recordsOf};
 ghost use Rattle.records.specs.Checked.{checkedOf};
 ghost use Rattle.records.specs.Records.{Filled};
 use framing::Outcome;
+use rules::Walk;
 use walk::tables::Tables;
 
 // The first place at which refusal 4 is due, where the walk is in the filler before record `from`, and no record before it is at fault.
@@ -28,6 +32,30 @@ fn filler_fault(f: &[u8], n: usize, from: usize) -> usize
     n + 1
 }
 
+// Instructions in a row: the first record from `from` on, before the last of n, that does not plainly fit. The walk before record `from`
+// is w; it counts those between.
+fn run_end(f: &[u8], n: usize, w: Walk, from: usize) -> usize
+    requires { ⌜ n ≡ records (now f) ⌝ ∗ ⌜ w ≡ scan (now f) from .walk ⌝ ∗ ⌜ from < n ⌝ }
+    ensures { λ e. ⌜ (Run (now (f .entry)) n w from e) × ((j : ℕ) → from ≤ j → j < e → recordTest (now (f .entry)) j ≡ true) ⌝ }
+{
+    let p = w.phase;
+    if !walk::run::in_code(p) {
+        return from;
+    }
+    let limits = operands::limits(w.registers, w.instructions);
+    let mut left = w.left;
+    let mut r = from;
+    while r + 1 < n {
+        let x = walk::file::record_at(f, r);
+        if !fits::plainly_fits(&limits, left, x) {
+            return r;
+        }
+        left = left - 1;
+        r = r + 1;
+    }
+    r
+}
+
 // The first place at which refusal 4 is due: a record, or their number where the file ends too soon; else one more.
 pub fn first_fault(f: &[u8], t: Tables) -> usize
     requires { ⌜ t ≡ tablesOf (now f) ⌝ }
@@ -43,6 +71,9 @@ pub fn first_fault(f: &[u8], t: Tables) -> usize
         if walk::step::in_filler(p) {
             return filler_fault(f, n, r);
         }
+        let e = run_end(f, n, w, r);
+        w = walk::step::to(w, p, w.left - (e - r));
+        r = e;
         let x = walk::file::record_at(f, r);
         if !fits::fits(f, &starts, end, w, x) {
             return r;

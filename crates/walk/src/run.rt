@@ -7,7 +7,8 @@ use crate::limits::CALL;
 use rules::Phase;
 use rules::Walk;
 
-fn in_code(p: Phase) -> bool
+// The walk is among a function's instructions.
+pub fn in_code(p: Phase) -> bool
     ensures { λ b. ⌜ b ≡ inCode p ⌝ }
 {
     match p {
@@ -25,7 +26,7 @@ fn in_code(p: Phase) -> bool
 }
 
 // An instruction of this kind, with so many to come, is counted and no more: it is no call, and not the last.
-fn counted_only(kind: u8, left: usize) -> bool
+pub fn counted_only(kind: u8, left: usize) -> bool
     ensures { λ b. ⌜ b ≡ countedOnly kind left ⌝ }
 {
     (1 < left) & (!(kind == CALL) & crate::step::is_instruction(kind))

@@ -1,5 +1,7 @@
--- `records::first_fault` meets its contract: the loop holds the walk before record r, and every record passed fits. Assumes nothing.
+-- `records::first_fault` meets its contract: the loop holds the walk before record r, and every record passed fits; instructions in a row are passed at once. Assumes nothing.
 use mathlib.Core.Path.{_≡_, sym, ap, _∙_}
+use mathlib.Core.Logic.{⊎-elim}
+use Rattle.words.specs.Choose.{lt-or-le}
 use Prim.Native.Nat.{ℕ, _≤_, _<_, _-_}
 use borrow.Author.Tests.{not-true, not-false}
 use borrow.Author.Needs.{needs}
@@ -44,34 +46,58 @@ filler-fault-requires c κs = (c .before .before .before .before .before .before
 returns : tie.Need-returns Inv-loop μ-loop
 returns c = search needs
 
+run-end-requires : tie.Need-run-end-requires Inv-loop μ-loop
+run-end-requires c κs = (c .before .before .before .before .before .before .before .count .ensures, (c .before .before .before .loop .inv .1, c .before .before .loop-test .taken))
+
+sub-to : tie.Need-sub-to Inv-loop μ-loop
+sub-to c = omega (arith, c .run-end .ensures .0 .from)
+
+sub-to-2 : tie.Need-sub-to-2 Inv-loop μ-loop
+sub-to-2 c = omega (arith, c .before .run-end .ensures .0 .many)
+
+to-requires : tie.Need-to-requires Inv-loop μ-loop
+to-requires c κs = search needs
+
 record-at-requires : tie.Need-record-at-requires Inv-loop μ-loop
 record-at-requires c κs = search needs
 
 fits-requires : tie.Need-fits-requires Inv-loop μ-loop
-fits-requires c κs = (c .before .before .before .before .before .loop .inv .2 .0, (c .before .before .before .before .before .loop .inv .2 .1, callee-at (c .before .before .before .before .before .before .before .before .before .before .before .args .f .now) (λ i. omega (arith, c .before .before .before .before .before .before .before .before .before .before .shared-slice-known .given i)) _ (c .before .before .before .before .before .loop .inv .1)))
+fits-requires c κs = (c .before .before .before .before .before .before .before .before .loop .inv .2 .0, (c .before .before .before .before .before .before .before .before .loop .inv .2 .1, callee-at (c .before .before .before .before .before .before .before .before .before .before .before .before .before .before .args .f .now) (λ i. omega (arith, c .before .before .before .before .before .before .before .before .before .before .before .before .before .shared-slice-known .given i)) _ (c .before .before .to .ensures ∙ c .before .before .before .before .run-end .ensures .0 .walk)))
 
 returns-2 : tie.Need-returns-2 Inv-loop μ-loop
 returns-2 c =
-    record-fails _ (c .before .before .before .before .before .before .before .before .before .before .before .count .ensures) (c .before .before .before .before .before .before .before .loop .inv .1) (c .before .before .before .before .before .before .before .loop .inv .3) (c .before .before .before .before .before .before .loop-test .taken)
-    (record-test _ (c .before .before .before .before .before .before .before .before .before .before .before .count .ensures) (c .before .before .before .before .before .before .before .loop .inv .1) (c .before .before .before .record-at .ensures) (c .before .fits2 .ensures) (c .before .before .before .before .before .before .loop-test .taken) ∙ not-true _ (c .if2 .taken))
+    let hw = c .before .before .before .before .to .ensures ∙ c .before .before .before .before .before .before .run-end .ensures .0 .walk in
+    let below = c .before .before .before .before .before .before .run-end .ensures .0 .below in
+    record-fails _ (c .before .before .before .before .before .before .before .before .before .before .before .before .before .before .count .ensures) hw (λ j l. ⊎-elim (λ k. c .before .before .before .before .before .before .before .before .before .before .loop .inv .3 j k) (λ k. c .before .before .before .before .before .before .run-end .ensures .1 j k l) (lt-or-le j (c .before .before .before .before .before .before .before .before .before .before .loop .r))) below
+    (record-test _ (c .before .before .before .before .before .before .before .before .before .before .before .before .before .before .count .ensures) hw (c .before .before .before .record-at .ensures) (c .before .fits2 .ensures) below ∙ not-true _ (c .if2 .taken))
 
 next-requires : tie.Need-next-requires Inv-loop μ-loop
-next-requires c κs = room-at (c .before .before .before .before .before .before .before .before .before .before .before .before .before .args .f .now) (λ i. omega (arith, c .before .before .before .before .before .before .before .before .before .before .before .before .shared-slice-known .given i)) _ (c .before .before .before .before .before .before .before .loop .inv .1) (let h = records-few (c .before .before .before .before .before .before .before .before .before .before .before .before .before .args .f .now) (c .before .before .before .before .before .before .before .before .before .before .before .before .before .good .0 .0) in omega (arith, c .before .before .before .before .before .before .before .before .before .before .before .count .ensures))
+next-requires c κs =
+    room-at (c .before .before .before .before .before .before .before .before .before .before .before .before .before .before .before .before .args .f .now) (λ i. omega (arith, c .before .before .before .before .before .before .before .before .before .before .before .before .before .before .before .shared-slice-known .given i)) _ (c .before .before .before .before .to .ensures ∙ c .before .before .before .before .before .before .run-end .ensures .0 .walk)
+    (let h = records-few (c .before .before .before .before .before .before .before .before .before .before .before .before .before .before .before .before .args .f .now) (c .before .before .before .before .before .before .before .before .before .before .before .before .before .before .before .before .good .0 .0) in omega (arith, c .before .before .before .before .before .before .run-end .ensures .0 .below, c .before .before .before .before .before .before .before .before .before .before .before .before .before .before .count .ensures))
 
 add-r : tie.Need-add-r Inv-loop μ-loop
-add-r c = omega arith
+add-r c =
+    let h : c .before .before .before .before .before .before .before .run-end .result < c .before .before .before .before .before .before .before .before .before .before .before .before .before .before .before .count .result = c .before .before .before .before .before .before .before .run-end .ensures .0 .below in
+    let few = records-few (c .before .before .before .before .before .before .before .before .before .before .before .before .before .before .before .before .before .args .f .now) (c .before .before .before .before .before .before .before .before .before .before .before .before .before .before .before .before .before .good .0 .0) in
+    omega (arith, c .before .before .before .before .before .before .before .before .before .before .before .before .before .before .before .count .ensures)
 
 loop-less : tie.Need-loop-less Inv-loop μ-loop
-loop-less c = omega arith
+loop-less c =
+    let h : c .before .before .before .before .before .before .before .run-end .result < c .before .before .before .before .before .before .before .before .before .before .before .before .before .before .before .count .result = c .before .before .before .before .before .before .before .run-end .ensures .0 .below in
+    let l : c .before .before .before .before .before .before .before .before .before .before .before .loop .r ≤ c .before .before .before .before .before .before .before .run-end .result = c .before .before .before .before .before .before .before .run-end .ensures .0 .from in
+    omega arith
 
 loop-again : tie.Need-loop-again Inv-loop μ-loop
-loop-again c = (
-  omega arith,
-  step-walk _ _ (c .before .before .before .before .before .before .before .before .loop .inv .1) (c .before .before .before .before .record-at .ensures) (c .next .ensures),
-  c .before .before .before .before .before .before .before .before .loop .inv .2,
-  below-more _ _ (c .before .before .before .before .before .before .before .before .loop .inv .3)
-      (record-test _ (c .before .before .before .before .before .before .before .before .before .before .before .before .count .ensures) (c .before .before .before .before .before .before .before .before .loop .inv .1) (c .before .before .before .before .record-at .ensures) (c .before .before .fits2 .ensures) (c .before .before .before .before .before .before .before .loop-test .taken) ∙ not-false _ (c .before .if2 .left)),
-)
+loop-again c =
+    let h : c .before .before .before .before .before .before .before .run-end .result < c .before .before .before .before .before .before .before .before .before .before .before .before .before .before .before .count .result = c .before .before .before .before .before .before .before .run-end .ensures .0 .below in
+    let hw = c .before .before .before .before .before .to .ensures ∙ c .before .before .before .before .before .before .before .run-end .ensures .0 .walk in (
+      omega arith,
+      step-walk _ _ hw (c .before .before .before .before .record-at .ensures) (c .next .ensures),
+      c .before .before .before .before .before .before .before .before .before .before .before .loop .inv .2,
+      below-more _ _ (λ j l. ⊎-elim (λ k. c .before .before .before .before .before .before .before .before .before .before .before .loop .inv .3 j k) (λ k. c .before .before .before .before .before .before .before .run-end .ensures .1 j k l) (lt-or-le j (c .before .before .before .before .before .before .before .before .before .before .before .loop .r)))
+          (record-test _ (c .before .before .before .before .before .before .before .before .before .before .before .before .before .before .before .count .ensures) hw (c .before .before .before .before .record-at .ensures) (c .before .before .fits2 .ensures) h ∙ not-false _ (c .before .if2 .left)),
+    )
 
 end-fits-requires : tie.Need-end-fits-requires Inv-loop μ-loop
 end-fits-requires c κs = search needs
@@ -97,6 +123,10 @@ first-fault-spec =
     in-filler-requires
     filler-fault-requires
     returns
+    run-end-requires
+    sub-to
+    sub-to-2
+    to-requires
     record-at-requires
     fits-requires
     returns-2
