@@ -1,10 +1,18 @@
 -- The verdict of refusals 5 to 8, rule by rule from the last to the first: what is left of it where the rules before have passed.
 -- Assumes nothing.
 use mathlib.Core.Path.{_≡_, refl, sym, ap, _∙_}
+use mathlib.Core.Bool.{Bool, true, false, _&&_}
+use mathlib.Core.Logic.{⊎-elim}
 use mathlib.Core.List.{[], _∷_, _++_}
-use Prim.Native.Nat.{ℕ, _-_, _<_, _≤_}
+use Prim.Native.Nat.{ℕ, _+_, _-_, _<_, _≤_}
+use native.Mathlib.Omega.{arith}
+use lib.Dec.{eqb}
 use Rattle.words.specs.Bytes.{Bytes, listOf}
-use borrow.Author.Tests.{lt-ltb, le-ltb}
+use borrow.Author.Count.{below-more}
+use borrow.Author.Tests.{lt-ltb, le-ltb, eq-eqb}
+use Rattle.words.specs.Choose.{lt-or-le, not-both, true-not-false}
+use Rattle.words.specs.First.{first}
+use Rattle.words.specs.FirstLaws.{first-le, first-before, first-fails, first-is}
 use Rattle.rules.specs.Stages.{Stage, failure, verdict}
 use Rattle.rules.specs.Decode.{moduleOf, startOf, instructionAt}
 use Rattle.rules.specs.Module.{Function}
@@ -72,3 +80,19 @@ module _ (f : Bytes) where
       ap (λ (x : ℕ). verdicts.Accepted x k c i) a ∙ ap (λ (x : ℕ). verdicts.Accepted (moduleOf f .terms) x c i) b
       ∙ ap (λ (x : ℕ). verdicts.Accepted (moduleOf f .terms) (moduleOf f .structs) x i) d
       ∙ ap (verdicts.Accepted (moduleOf f .terms) (moduleOf f .structs) (moduleOf f .functions)) (e ∙ ap (instructionsBelow f) (d ∙ functions-are) ∙ instructions-all f)
+
+-- ---- the first of one test more
+
+module _ (t : ℕ → Bool) (g : ℕ) {s : ℕ} (is : s ≡ first g t) where
+  pub first-goes : s ≡ g → t g ≡ true → g + 1 ≡ first (g + 1) t
+  first-goes e h = sym (first-is (g + 1) t (g + 1) (omega arith) (below-more _ g (λ j l. first-before g t j (omega (arith, is))) h) (λ l. absurd (omega arith)))
+
+  pub first-stays : eqb s g && t g ≡ false → s ≡ first (g + 1) t
+  first-stays h = sym (first-is (g + 1) t s (omega (arith, is, first-le g t)) (λ j l. first-before g t j (omega (arith, is))) (λ l. fails))
+    where
+      fails : t s ≡ false
+      fails = ⊎-elim (λ l. ap t is ∙ first-fails g t (omega (arith, is)))
+          (λ l.
+          let e : s ≡ g = omega (arith, is, first-le g t) in
+          ⊎-elim (λ w. absurd (true-not-false (eq-eqb s g e) w)) (λ w. ap t e ∙ w) (not-both (eqb s g) (t g) h))
+          (lt-or-le s g)

@@ -2,7 +2,9 @@
 ghost use mathlib.Core.Path.{_≡_};
 ghost use Prim.Native.Nat.{ℕ, _<_};
 ghost use Rattle.rules.specs.Decode.{moduleOf, startOf};
-ghost use Rattle.rules.specs.Verdict.{functionTest, verdictOf};
+ghost use Rattle.words.specs.First.{first};
+ghost use Rattle.rules.specs.Verdict.{functionTest, lastTest, verdictOf};
+ghost use Rattle.framing.specs.declared.Outcome.the-variants.{Passed};
 ghost use mathlib.Core.Bool.{true};
 ghost use Rattle.typing.specs.Walk.{Fits};
 ghost use Rattle.positions.specs.Table.{Table};
@@ -11,15 +13,23 @@ ghost use Rattle.instructions.specs.Plain.{Tight};
 ghost use Rattle.instructions.specs.Scan.{typedFrom};
 ghost use Rattle.checker.specs.Rules.{lastRules, typedRules, functionRules, structRules, termRules};
 use framing::Outcome;
+use instructions::known::no_runs;
+use instructions::scan::first_instruction;
 use rules::Verdict;
 use walk::limits::CALLEES;
 
-// Refusal 8, then accepted.
-fn last_rules(f: &[u8], n: usize, k: usize, c: usize, starts: &[usize; CALLEES]) -> Verdict
-    requires { ⌜ Known (now f) n k c (now starts) ⌝ }
+// Refusal 8, of function g where there is such a function, then accepted.
+fn last_rules(
+    f: &[u8],
+    n: usize,
+    k: usize,
+    c: usize,
+    starts: &[usize; CALLEES],
+    g: usize,
+) -> Verdict
+    requires { ⌜ Known (now f) n k c (now starts) ⌝ ∗ ⌜ g ≡ first c (lastTest (moduleOf (now f))) ⌝ }
     ensures { λ v. ⌜ v ≡ lastRules (now (f .entry)) ⌝ }
 {
-    let g = functions::last::first_last(f, n, k, c, starts);
     if g < c {
         let h = walk::tables::start_of(f, starts, g);
         Verdict::Refused {
@@ -36,6 +46,12 @@ fn last_rules(f: &[u8], n: usize, k: usize, c: usize, starts: &[usize; CALLEES])
     }
 }
 
+// What refusal 7 says of the functions; and, where they pass, the first whose last instruction lets the code run on, or their number.
+struct Scanned {
+    outcome: Outcome,
+    ends: usize,
+}
+
 // Refusal 7: the first instruction that breaks its rule, function by function.
 fn typed_functions(
     f: &[u8],
@@ -44,26 +60,35 @@ fn typed_functions(
     c: usize,
     starts: &[usize; CALLEES],
     tab: &[u64],
-) -> Outcome
+) -> Scanned
     requires { ⌜ Known (now f) n k c (now starts) ⌝ ∗ ⌜ Table (now f) n k (now tab) ⌝ ∗ ⌜ ((g : ℕ) → g < c → Tight (functionAt (now f) (startOf (now f) g))) ⌝ }
-    ensures { λ o. ⌜ o ≡ typedFrom (now (f .entry)) 0 c ⌝ }
+    ensures { λ s. ⌜ (s .outcome ≡ typedFrom (now (f .entry)) 0 c) × (s .outcome ≡ Passed → s .ends ≡ first c (lastTest (moduleOf (now (f .entry))))) ⌝ }
 {
+    let mut known = no_runs();
+    let mut ends = 0;
     let mut g = 0;
     while g < c {
         let h = walk::tables::start_of(f, starts, g);
         let x = walk::file::record_at(f, h);
         let count = walk::file::instructions_of(x);
-        let found = instructions::scan::first_instruction(f, n, k, c, starts, tab, h);
+        let found = first_instruction(f, n, k, c, starts, tab, &mut known, h);
         let index = found.index;
+        let place = found.place;
         if index < count {
-            return Outcome::Refused {
-                number: 7,
-                place: found.place,
+            return Scanned {
+                outcome: Outcome::Refused { number: 7, place },
+                ends,
             };
+        }
+        if (ends == g) & functions::last::last_ends(f, h, g, place) {
+            ends = g + 1;
         }
         g = g + 1;
     }
-    Outcome::Passed
+    Scanned {
+        outcome: Outcome::Passed,
+        ends,
+    }
 }
 
 // Refusals 7 and 8.
@@ -72,9 +97,11 @@ fn typed_rules(f: &[u8], n: usize, k: usize, c: usize, starts: &[usize; CALLEES]
     ensures { λ v. ⌜ v ≡ typedRules (now (f .entry)) ⌝ }
 {
     let tab = positions::extents(f, n, k);
-    let o = typed_functions(f, n, k, c, starts, &tab);
+    let scanned = typed_functions(f, n, k, c, starts, &tab);
+    let o = scanned.outcome;
+    let g = scanned.ends;
     match o {
-        Outcome::Passed => last_rules(f, n, k, c, starts),
+        Outcome::Passed => last_rules(f, n, k, c, starts, g),
         Outcome::Refused { number, place } => Verdict::Refused { number, place },
     }
 }

@@ -24,18 +24,18 @@ enum-told : tie.Need-enum-told
 enum-told c = search needs
 
 last-rules-requires : tie.Need-last-rules-requires
-last-rules-requires c κs = search needs
+last-rules-requires c κs = (c .before .before .before .before .before .before .pre .0, c .before .before .typed-functions .ensures .1 (c .enum-told .given .1))
 
 enum-known-o : tie.Need-enum-known-o
 enum-known-o c = search needs
 
 returns : tie.Need-returns
 unfolding typedRules
-returns c = let f = now (c .before .before .before .before .before .before .before .args .f) in c .last-rules .ensures ∙ ap (λ (o : Outcome). andThen o (lastRules f)) (sym (c .before .enum-told .given .1) ∙ c .before .before .before .typed-functions .ensures ∙ ap (typedFrom f 0) (c .before .before .before .before .before .before .before .pre .0 .functions))
+returns c = let f = now (c .before .before .before .before .before .before .before .args .f) in c .last-rules .ensures ∙ ap (λ (o : Outcome). andThen o (lastRules f)) (sym (c .before .enum-told .given .1) ∙ c .before .before .before .typed-functions .ensures .0 ∙ ap (typedFrom f 0) (c .before .before .before .before .before .before .before .pre .0 .functions))
 
 returns-2 : tie.Need-returns-2
 unfolding typedRules
-returns-2 c = let f = now (c .before .before .before .before .before .before .before .args .f) in ap (λ (o : Outcome). andThen o (lastRules f)) (sym (c .before .o .given .1) ∙ c .before .before .before .typed-functions .ensures ∙ ap (typedFrom f 0) (c .before .before .before .before .before .before .before .pre .0 .functions))
+returns-2 c = let f = now (c .before .before .before .before .before .before .before .args .f) in ap (λ (o : Outcome). andThen o (lastRules f)) (sym (c .before .o .given .1) ∙ c .before .before .before .typed-functions .ensures .0 ∙ ap (typedFrom f 0) (c .before .before .before .before .before .before .before .pre .0 .functions))
 
 pub typed-rules-spec : {M : Type 1} → statement M
 typed-rules-spec =
