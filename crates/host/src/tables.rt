@@ -6,13 +6,14 @@ ghost use Rattle.rules.specs.StateTest.{decPasses};
 ghost use Rattle.rules.specs.Verdict.{verdictOf, IsAccepted};
 ghost use Rattle.host.specs.Ready.{Ready};
 use walk::limits::CALLEES;
+use walk::limits::MOST_TERMS;
 
 pub struct Tables {
     pub terms: usize,
     pub structs: usize,
     pub functions: usize,
     pub starts: [usize; CALLEES],
-    pub extents: [u64; 128],
+    pub extents: [u64; MOST_TERMS],
 }
 
 pub fn tables_of(file: &[u8]) -> Tables

@@ -15,6 +15,7 @@ ghost use Rattle.positions.specs.Positions.{Keeps, Agree, argByte, Found
 ghost use Rattle.positions.specs.Distances.{Lower, ElementIs};
 use terms::Extent;
 use terms::Head;
+use walk::limits::MOST_TERMS;
 
 // A primitive: its distance in bytes, and the place of its term with the regions put for its variables.
 pub struct Primitive {
@@ -263,11 +264,11 @@ fn core_of(f: &[u8], n: usize, p: usize) -> Core
 // ---- the table of a file
 
 // The table of a file with n terms and k structs, whose records are in range.
-pub fn extents(f: &[u8], n: usize, k: usize) -> [u64; 128]
+pub fn extents(f: &[u8], n: usize, k: usize) -> [u64; MOST_TERMS]
     requires { ⌜ (Counted (now f) n k) × (Ranged (now f) n) ⌝ }
     ensures { λ r. ⌜ Table (now (f .entry)) n k r ⌝ }
 {
-    let mut tab = [0u64; 128];
+    let mut tab = [0u64; MOST_TERMS];
     let mut t = 0;
     while t < n {
         let e = terms::term_extent(f, n, k, t + 1);
