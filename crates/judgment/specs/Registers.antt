@@ -6,7 +6,6 @@ use mathlib.Core.Logic.{_↔_}
 use Prim.Native.Nat.{ℕ, _<_}
 use native.Mathlib.Omega.{arith}
 use lib.Dec.{ltb, eqb}
-use borrow.Author.Tests.{eqb-true}
 use Rattle.words.specs.Choose.{and-reads, lt-reads, eq-reads, does-same}
 use Rattle.words.specs.Decide.{does, does-true}
 use Rattle.rules.specs.Types.{variable, Variable, region, Tree, int, ptr, arr, struct, form, numberOf, inner, regionOf, decTree}
@@ -65,11 +64,6 @@ module _ (f : Bytes) (h : ℕ) where
 
   pub region-is : {t : ℕ} (i : ℕ) → t ≡ regionTerm f h i → moduleOf f .term t ≡ functionAt f h .regionType i
   region-is i e = ap (λ (t : ℕ). moduleOf f .term t) e ∙ sym (region-at f h i)
-
--- the target of a pointer, which is known only where there is one
-pub target-same : (P U T : Tree variable) → (form P ≡ 2 → T ≡ inner P) → eqb (form P) 2 && does (decTree T U) ≡ eqb (form P) 2 && does (decTree (inner P) U)
-target-same P U T e = guarded (eqb (form P) 2) (does (decTree T U)) (does (decTree (inner P) U))
-    (λ q. ap (λ (S : Tree variable). does (decTree S U)) (e (eqb-true (form P) 2 q)))
 
 -- ---- registers
 

@@ -17,7 +17,6 @@ use crate::types::OPERANDS;
 use crate::types::entry;
 use crate::types::kind_in;
 use crate::types::term_in;
-use rules::Record;
 use walk::limits::CALLEES;
 
 // 29: byte c of the form into i8 a.

@@ -1,14 +1,13 @@
 -- Operands that fit because they are below the limit of their class: a test that needs no choice by the class. Assumes nothing.
-use mathlib.Core.Path.{_≡_, refl, sym, ap, ap₂, _∙_}
+use mathlib.Core.Path.{_≡_, refl, sym, ap, _∙_}
 use mathlib.Core.Bool.{Bool, true, false, cond, _&&_}
 use mathlib.Core.List.{List, [], _∷_}
-use Prim.Native.Nat.{ℕ, zero, suc, _+_, _<_, _≤_}
+use Prim.Native.Nat.{ℕ, zero, suc, _+_}
 use native.Mathlib.Omega.{arith}
 use lib.Dec.{ltb, leb, eqb}
 use lib.ListN.{getD}
 use borrow.Author.Tests.{ltb-true, eq-eqb, le-leb}
 use Rattle.words.specs.Choose.{cond-nlt, both, both-of}
-use Rattle.rules.specs.File.{isInstruction}
 use Rattle.rules.specs.Operands.{lastOperation, operandFits, classesOf}
 use Rattle.rules.specs.declared.Record.{Record}
 

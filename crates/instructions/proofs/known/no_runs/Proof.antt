@@ -1,6 +1,5 @@
 -- `instructions::known::no_runs` meets its contract: no number of a run is 0.
 use Rattle.instructions.specs.Known.{remembered-none}
-use borrow.Author.Needs.{needs}
 use Rattle.instructions.proofs.known.no_runs.Statement.{statement}
 use Rattle.instructions.proofs.known.no_runs.Tie as tie
 

@@ -1,5 +1,5 @@
 -- `instructions::known::run_known` meets its contract: what is remembered, or what is found and then remembered.
-use mathlib.Core.Path.{_≡_, sym, ap, _∙_}
+use mathlib.Core.Path.{sym, ap, _∙_}
 use Prim.Native.Nat.{_+_, _%_}
 use denote.Ref.{now}
 use native.Mathlib.Omega.{arith}
