@@ -13,7 +13,7 @@ use Rattle.rules.specs.Types.{live, region, Tree, int, ptr, arr, struct, width,
 use Rattle.rules.specs.Module.{Module}
 use Rattle.rules.specs.Flat.{at, Has, flat, size, count, distance, Run, RunAt, Same}
 use Rattle.rules.specs.Heap.{close, HeapTyping, Stands, Value}
-use Rattle.rules.specs.Claim.{InObject, InRun}
+use Rattle.rules.specs.SafeStep.{InObject, InRun}
 use Rattle.layout.specs.TypesOk.{GoodTree, good-element, TypesOk}
 use Rattle.layout.specs.Types.{Outer}
 use Rattle.layout.specs.Prims.{at-has}

@@ -7,7 +7,7 @@ use Rattle.rules.specs.Types.{variable, live, Tree, arr, width, Primitive}
 use Rattle.rules.specs.Module.{Module}
 use Rattle.rules.specs.Flat.{flat, size, distance, Run, Same}
 use Rattle.rules.specs.Heap.{close, HeapTyping, Stands}
-use Rattle.rules.specs.Claim.{InObject, InRun}
+use Rattle.rules.specs.SafeStep.{InObject, InRun}
 use Rattle.layout.specs.TypesOk.{GoodTree, TypesOk}
 use Rattle.layout.specs.Flat.{size-prim, size-pos}
 use Rattle.layout.specs.Close.{close-arr, size-close, good-close, distance-close, run-close, same-close}

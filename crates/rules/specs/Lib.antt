@@ -23,6 +23,9 @@ pub mod Writes
 pub mod Run
 pub mod StateTest
 pub mod Host
+-- demand 3: what it claims of a step and of a list of calls; start at Claim
+pub mod SafeStep
+pub mod Calls
 pub mod Claim
 -- small cases by computation: nothing below says what the rules are
 pub mod Quick

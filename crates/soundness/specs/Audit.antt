@@ -19,7 +19,7 @@ use Rattle.rules.specs.Step.{Effect, assign, fetch, save, takePlace, grantPage,
 use Rattle.rules.specs.Writes.{applyState, applyOutput}
 use Rattle.rules.specs.Run.{Step, topOf, stepOf, stateAfter, outputAfter, Trace, noSteps, runOf}
 use Rattle.rules.specs.StateTest.{Passes}
-use Rattle.rules.specs.Claim.{InRun, Touches, SameButPages, Reads, SafeStep}
+use Rattle.rules.specs.SafeStep.{InRun, Touches, SameButPages, Reads, SafeStep}
 use Rattle.state.specs.Update.{memoryNumber-agree}
 use Rattle.state.specs.Areas.{memory-agree}
 use Rattle.state.specs.Independence.{view-pages}

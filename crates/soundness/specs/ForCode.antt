@@ -26,7 +26,7 @@ use Rattle.rules.specs.Step.{stuck, effectOf}
 use Rattle.rules.specs.Run.{Step, stepOf, stateAfter, outputAfter, Trace, noSteps, runOf, stuckSteps}
 use Rattle.rules.specs.StateTest.{Passes, decPasses}
 use Rattle.rules.specs.Host.{Outcome, ended, stopped, running, Went, refused, went, noAnswer, opened, Part, emptyPart, onVerdict, outcomeOf, wentOf, goOf, firstState, openOf, objectIn, objectOf}
-use Rattle.rules.specs.Claim.{SafeStep}
+use Rattle.rules.specs.SafeStep.{SafeStep}
 use Rattle.rules.specs.declared.Verdict.{Verdict}
 use Rattle.rules.specs.declared.Verdict.the-variants.{Accepted, Refused}
 use Rattle.state.specs.Effects.{Bounded}
@@ -71,7 +71,7 @@ module _ (m : Module) (ok : ModuleOk m) (form : Bytes) (form-bytes : AllBytes fo
         moves = p .safe .moves;
         bounds = r .bounds;
         safe = p .safe;
-        after = record { bytes = p .whole .bytes; passes = test-passes m ok (stateAfter m (stepOf m form s o)) (p .whole .size) (p .whole .spare) (p .test) };
+        after = record { bytes = p .whole .bytes; passes = p .safe .after };
       }
 
 -- of an accepted file

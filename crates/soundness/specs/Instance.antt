@@ -14,7 +14,9 @@ use Rattle.rules.specs.Verdict.{verdictOf, IsAccepted}
 use Rattle.rules.specs.Step.{Effect, assign, fetch, save, takePlace, grantPage, freePlace, goTo, emit, push, pop, finish, stop, stuck}
 use Rattle.rules.specs.Run.{Step, Trace}
 use Rattle.rules.specs.Host.{Outcome, ended, went, notOpened, opened, openOf, goOf}
-use Rattle.rules.specs.Claim.{decInPrimitives, decNames, decInValue, strayFrom, strayBytes, granted, handedBack, Call, Lent, Claim, fromOpening}
+use Rattle.rules.specs.SafeStep.{decInPrimitives, decNames, decInValue, strayFrom, strayBytes}
+use Rattle.rules.specs.Calls.{granted, handedBack, Call, Lent, fromOpening}
+use Rattle.rules.specs.Claim.{Claim}
 use Rattle.words.specs.Bits.{bit, withBit}
 use Rattle.words.specs.Bytes.{number, little, splice, listFrom}
 use Rattle.words.specs.First.{firstFrom, first, sumBelow}

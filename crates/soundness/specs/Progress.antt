@@ -26,7 +26,7 @@ use Rattle.rules.specs.Heap.{close, decLive, liveList, typeOf, HeapTyping, heap
 use Rattle.rules.specs.Arithmetic.{Computed, value, halt, operationOf, operated, cut, signExtended}
 use Rattle.rules.specs.Step.{Effect, assign, takePlace, grantPage, freePlace, goTo, emit, push, pop, stop, need, onInt, onPtr, onArr, onCall, StandsAtCall, decStandsAtCall, lowestNumbers, Home, decHome, unusedPlace, hasRoom, roomPage, unownedPage, allocate, notZero, computed, Held, decHeld, calleeMap, calleeRegisters, returned, exec, effectAt}
 use Rattle.rules.specs.StateTest.{Listed, Chained, site-unique}
-use Rattle.rules.specs.Claim.{Touches}
+use Rattle.rules.specs.SafeStep.{Touches}
 use Rattle.layout.specs.TypesOk.{GoodTree, good-ptr}
 use Rattle.state.specs.Update.{upd-same}
 use Rattle.state.specs.Apply.{granted}

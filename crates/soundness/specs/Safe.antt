@@ -10,7 +10,7 @@ use Rattle.rules.specs.State.{View}
 use Rattle.rules.specs.Heap.{close, Live, typeOf, heapTyping, Value}
 use Rattle.rules.specs.Step.{Effect, assign, fetch, save, takePlace, grantPage, freePlace, goTo, emit, push, pop, finish, stop, stuck}
 use Rattle.rules.specs.StateTest.{Listed}
-use Rattle.rules.specs.Claim.{Touches}
+use Rattle.rules.specs.SafeStep.{Touches}
 use Rattle.layout.specs.Heap.{Slot}
 use Rattle.state.specs.Apply.{granted}
 use Rattle.soundness.specs.Preserve.{SafePush}

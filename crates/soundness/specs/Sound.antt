@@ -14,7 +14,8 @@ use Rattle.rules.specs.State.{View, view}
 use Rattle.rules.specs.Step.{Effect, assign, fetch, save, takePlace, grantPage, freePlace, goTo, emit, push, pop, finish, stop, stuck, effectAt, effectOf, grantedBy, handedBackBy}
 use Rattle.rules.specs.Run.{Step, topOf, stepOf, stateAfter, outputAfter, Trace, noSteps, runOf, isStuck, stuckSteps}
 use Rattle.rules.specs.StateTest.{StatusOk, running, stopped, ended, SpareOk}
-use Rattle.rules.specs.Claim.{SafeStep, AllSafe, owned, granted, handedBack}
+use Rattle.rules.specs.SafeStep.{SafeStep, AllSafe}
+use Rattle.rules.specs.Calls.{owned, granted, handedBack}
 use Rattle.state.specs.Effects.{Bounded, view-apply}
 use Rattle.state.specs.Whole.{Whole, whole-apply}
 use Rattle.state.specs.Independence.{decides-law, reads-law, keeps-law}
@@ -22,8 +23,9 @@ use Rattle.soundness.specs.Facts.{ModuleOk}
 use Rattle.soundness.specs.Good.{Good}
 use Rattle.soundness.specs.Safe.{Safe}
 use Rattle.soundness.specs.Progress.{progress}
-use Rattle.soundness.specs.Step.{Test, pages-step, preserve, ended-none}
+use Rattle.soundness.specs.Step.{Test, fetched, pages-step, preserve, ended-none}
 use Rattle.soundness.specs.Bounds.{bounded}
+use Rattle.soundness.specs.Bridge.{test-passes}
 
 -- the top frame of a state
 abbrev pub topFrame : Bytes → ℕ
@@ -113,6 +115,9 @@ module _ (m : Module) (ok : ModuleOk m) where
       let r = ready form s b t z in
       let f : Safe m (view s) (topFrame s) (effectOf m form (view s)) = r .safe in
       let after = view-apply m s (w .size) (w .bytes) (topFrame s) (effectOf m form (view s)) (r .bounds) in
+      let test : Test m (view (stateAfter m (stepOf m form s o))) =
+      rw after (preserve m ok (view s) (topFrame s) (effectOf m form (view s)) (r .frame) z (r .result) (t .output) (r .good) (r .spare) f) in
+      let held : Whole (stateAfter m (stepOf m form s o)) = whole-apply m s (topFrame s) (effectOf m form (view s)) (r .bounds) w in
       record {
         safe = record {
           frame = r .frame;
@@ -121,13 +126,17 @@ module _ (m : Module) (ok : ModuleOk m) where
           stops = λ n d. subst (λ (u : Effect). Safe m (view s) (topFrame s) u) d f;
           loads = λ b a y w d. subst (λ (u : Effect). Safe m (view s) (topFrame s) u) d f .touches;
           stores = λ b y w u d. subst (λ (u : Effect). Safe m (view s) (topFrame s) u) d f .touches;
+          fetches = λ b a y w d.
+              let g = subst (λ (u : Effect). Safe m (view s) (topFrame s) u) d f in
+              record { register = g .register; value = fetched m (view s) (topFrame s) b a y w (r .good) g };
           decides = λ y h. decides-law m form y s h;
           reads = λ y h q. reads-law m (topFrame s) y s h (effectOf m form (view s)) q;
           keeps = keeps-law m s (w .size) (w .bytes) (topFrame s) (effectOf m form (view s)) (r .bounds);
+          after = test-passes m ok (stateAfter m (stepOf m form s o)) (held .size) (held .spare) test;
         };
         moving = stuck-none m (view s) (topFrame s) (effectOf m form (view s)) f;
-        test = rw after (preserve m ok (view s) (topFrame s) (effectOf m form (view s)) (r .frame) z (r .result) (t .output) (r .good) (r .spare) f);
-        whole = whole-apply m s (topFrame s) (effectOf m form (view s)) (r .bounds) w;
+        test = test;
+        whole = held;
         pages = rw after (pages-step m (view s) (topFrame s) (effectOf m form (view s)) f);
       }
 

@@ -12,10 +12,10 @@ use Rattle.rules.specs.Limits.{pages, pageBytes, outputBytes}
 use Rattle.rules.specs.Types.{width}
 use Rattle.rules.specs.Module.{Module, regions}
 use Rattle.rules.specs.State.{View, memoryNumber}
-use Rattle.rules.specs.Heap.{close, heapTyping}
+use Rattle.rules.specs.Heap.{close, heapTyping, Value}
 use Rattle.rules.specs.Step.{Effect, assign, fetch, save, takePlace, grantPage, freePlace, goTo, emit, push, pop, finish, stop, stuck, grantedBy, handedBackBy}
 use Rattle.rules.specs.StateTest.{StatusOk, running, stopped, ended, SpareOk}
-use Rattle.rules.specs.Claim.{ownedBelow}
+use Rattle.rules.specs.Calls.{ownedBelow}
 use Rattle.layout.specs.Types.{outer-close}
 use Rattle.layout.specs.Heap.{Kept, value-keep}
 use Rattle.state.specs.Update.{upd, upd-same, upd-other}
@@ -25,7 +25,7 @@ use Rattle.soundness.specs.Facts.{ModuleOk}
 use Rattle.soundness.specs.Good.{Good}
 use Rattle.soundness.specs.Preserve.{good-moved, good-wrote, good-saved, good-marked, good-granted, good-closed, good-pushed, open-kept, below-open}
 use Rattle.soundness.specs.Spare.{spare-moved, spare-wrote, spare-saved, spare-became, spare-counted, spare-marked, spare-granted, spare-pushed, spare-closed}
-use Rattle.soundness.specs.Safe.{SafePop, Safe}
+use Rattle.soundness.specs.Safe.{SafeFetch, SafePop, Safe}
 
 -- ---- pages
 
@@ -92,6 +92,11 @@ module _ (m : Module) (ok : ModuleOk m) (v : View) (c a x : ℕ) (g : Good m v (
   spare-popped : SpareOk m v (suc (suc c)) → SpareOk m (wrote c a x (closed m (suc c) v)) (suc c)
   spare-popped y = spare-wrote m (closed m (suc c) v) c a x (spare-closed m ok v (suc c) g y) (rw caller-fn (f .register))
 
+-- 25: what a safe load fetches is a value of its register's type
+pub fetched : (m : Module) (v : View) (k b a x w : ℕ) → Good m v (suc k) → SafeFetch m v k b a x w
+    → Value m (heapTyping m v (suc k)) (close (v .map k) (m .function (v .fn k) .registerType a)) (memoryNumber (v .memory) x w)
+fetched m v k b a x w g f = rw (f .bytes) (g .slots x (close (v .map k) (m .function (v .fn k) .registerType a)) (f .slot))
+
 -- a state that runs on
 going : (m : Module) (u : View) (n : ℕ) → u .frames ≡ suc n → u .status ≡ 0 → u .result ≡ 0 → u .outputCount ≤ outputBytes → Good m u (suc n) → SpareOk m u (suc n) → Test m u
 going m u n e s z o g c = record {
@@ -107,9 +112,7 @@ pub preserve : (m : Module) → ModuleOk m → (v : View) (k : ℕ) (e : Effect)
 preserve m ok v k (assign a x) n s z o g c f = going m (wrote k a x v) k n s z o (good-wrote m v k a x g (f .next) (f .value)) (spare-wrote m v k a x c (f .register))
 preserve m ok v k (fetch b a x w) n s z o g c f =
     let y : ℕ = memoryNumber (v .memory) x w in
-    going m (wrote k a y v) k n s z o
-    (good-wrote m v k a y g (f .next) (rw (f .bytes) (g .slots x (close (v .map k) (m .function (v .fn k) .registerType a)) (f .slot))))
-    (spare-wrote m v k a y c (f .register))
+    going m (wrote k a y v) k n s z o (good-wrote m v k a y g (f .next) (fetched m v k b a x w g f)) (spare-wrote m v k a y c (f .register))
 preserve m ok v k (save b x w y) n s z o g c f =
     going m (moved k (suc (v .pc k)) (saved x w y v)) k n s z o
     (rw (f .bytes) (good-moved m (saved x (width (f .type)) y v) k (suc (v .pc k)) (good-saved m v (suc k) x y (f .type) g (f .slot) (f .value)) (f .next)))

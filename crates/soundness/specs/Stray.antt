@@ -11,7 +11,7 @@ use Rattle.rules.specs.Module.{Module}
 use Rattle.rules.specs.State.{View, view}
 use Rattle.rules.specs.Step.{Effect, assign, fetch, save, takePlace, grantPage, freePlace, goTo, emit, push, pop, finish, stop, stuck}
 use Rattle.rules.specs.Run.{Step}
-use Rattle.rules.specs.Claim.{Touches, InValue, decInValue, strayFrom, strayBy, strayBytes, AllSafe}
+use Rattle.rules.specs.SafeStep.{Touches, InValue, decInValue, strayFrom, strayBy, strayBytes, AllSafe}
 
 module _ (m : Module) (v : View) (k : ℕ) where
   touched-in : (b x w : ℕ) → Touches m v k b x w → (i : ℕ) → x ≤ i → i < x + w → InValue m v k b i

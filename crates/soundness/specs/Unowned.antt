@@ -23,7 +23,7 @@ use Rattle.rules.specs.Step.{Effect, assign, fetch, save, takePlace, grantPage,
 use Rattle.rules.specs.Writes.{applyState}
 use Rattle.rules.specs.Run.{Step, topOf, stepOf, stateAfter, outputAfter, Trace, noSteps, runOf}
 use Rattle.rules.specs.StateTest.{Passes}
-use Rattle.rules.specs.Claim.{Touches, SameButPages, Reads, SafeStep}
+use Rattle.rules.specs.SafeStep.{Touches, SameButPages, Reads, SafeStep}
 use Rattle.layout.specs.Flat.{flat-inside}
 use Rattle.layout.specs.Close.{size-close}
 use Rattle.state.specs.Update.{upd, upd-cases, upd-other, stored, zeroed, zeroed-in, zeroed-out}

@@ -17,7 +17,7 @@ use Rattle.rules.specs.Module.{Instruction, constant, copy, operate, zeroExtend
 use Rattle.rules.specs.State.{markPlace, memoryPlace, memoryByte, memoryNumber, View, view, Write, written, putStatus, putFrames, putOutputCount, putResult, putOwner, putMark, clearPage, putMemory, putInstruction, putFrame, clearMarks, clearFrame}
 use Rattle.rules.specs.Step.{Effect, assign, fetch, save, takePlace, grantPage, freePlace, goTo, emit, push, pop, finish, stop, stuck, need, decHeld, calleeMap, calleeRegisters, returned, exec, effectAt, effectOf, closes}
 use Rattle.rules.specs.Writes.{closing, leaving, setAndOn, stateWrites, applyState}
-use Rattle.rules.specs.Claim.{SameButPages, Reads, Changes}
+use Rattle.rules.specs.SafeStep.{SameButPages, Reads, Changes}
 use Rattle.state.specs.Update.{stored-apart, zeroed-out, memoryNumber-agree}
 use Rattle.state.specs.Apply.{apply}
 use Rattle.state.specs.Areas.{view-eq, memory-agree, stack-same, owners-same, marks-same, status-agree, frames-agree, outputCount-agree, result-agree, withMemory}

@@ -14,7 +14,7 @@ use Rattle.rules.specs.Module.{Module}
 use Rattle.rules.specs.Heap.{decLocal}
 use Rattle.rules.specs.State.{View}
 use Rattle.rules.specs.Step.{Effect, assign, fetch, save, takePlace, grantPage, freePlace, goTo, emit, push, pop, finish, stop, stuck, closes, closedPages, grantedBy, handedBackBy}
-use Rattle.rules.specs.Claim.{ownedBelow}
+use Rattle.rules.specs.Calls.{ownedBelow}
 use Rattle.state.specs.Update.{upd, upd-same, upd-other}
 use Rattle.state.specs.Apply.{closedOwner, apply}
 

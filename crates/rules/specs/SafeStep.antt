@@ -1,0 +1,196 @@
+-- What demand 3 claims of one step of a list (`SafeStep`): that it is the rules' step and moves on, ends or stops; which bytes a load or
+-- store touches, with the count of those that stray; what a load fetches; what bears on the step and what it changes; and the state test
+-- after it. Assumes nothing.
+use mathlib.Core.Path.{_≡_}
+use mathlib.Core.Bool.{cond}
+use mathlib.Core.Logic.{_⊎_, inl, inr, _≢_}
+use mathlib.Core.List.{List, [], _∷_}
+use Prim.Native.Nat.{ℕ, zero, suc, _+_, _*_, _/_, _%_, _<_, _≤_}
+use native.Mathlib.Decide.{decLt, decLe}
+use lib.ListN.{length}
+use Rattle.words.specs.Bytes.{Bytes, byteAt}
+use Rattle.words.specs.Decide.{does, mapDec, decBoth, decEither}
+use Rattle.rules.specs.Limits.{pageBytes, memoryAt, memoryBytes}
+use Rattle.rules.specs.Types.{variable, live, Variable, Tree, ptr, width}
+use Rattle.rules.specs.Module.{Module, regions}
+use Rattle.rules.specs.Flat.{Placed, at, Has, here, there, flat, size}
+use Rattle.rules.specs.Typing.{_⊢_∶_}
+use Rattle.rules.specs.Decision.{decReg, withPtr}
+use Rattle.rules.specs.State.{View, view, memoryPlace, memoryNumber}
+use Rattle.rules.specs.Heap.{close, Live, decLive, typeOf, heapTyping, Stands, decStands, Value}
+use Rattle.rules.specs.Step.{Effect, assign, fetch, save, takePlace, grantPage, freePlace, goTo, emit, push, pop, finish, stop, stuck, effectOf}
+use Rattle.rules.specs.Writes.{applyState}
+use Rattle.rules.specs.Run.{Step, stateAfter}
+use Rattle.rules.specs.StateTest.{Listed, Passes}
+
+-- ---- what a load or store touches
+
+-- Address i lies in place j of page p, whose objects have size s: inside one object, used or free.
+pub record InObject (i p j s : ℕ) : Type 0 where
+  pub low : pageBytes * p + s * j ≤ i
+  pub high : i < pageBytes * p + s * suc j
+  pub whole : s * suc j ≤ pageBytes
+
+-- Address i lies in one of these primitives, with distances taken from address x; in one of the run of T at x.
+pub record InPrimitives (l : List (Placed live)) (x i : ℕ) : Type 0 where
+  pub distance : ℕ
+  pub type : Tree live
+  pub has : Has l distance type
+  pub low : x + distance ≤ i
+  pub high : i < x + distance + width type
+
+abbrev pub InRun : Module → Tree live → (x i : ℕ) → Type 0
+InRun m T x i = InPrimitives (flat m T .prims) x i
+
+-- "The value that the type of a pointer not zero names is that run of primitives at its address." Register b of the top frame k has
+-- type pointer to `target` in region variable `within`, which is in scope and leads to a live region; the run of the target, closed by
+-- the frame's map, stands at the register's address, inside one object, used or free, of that region.
+pub record Names (m : Module) (v : View) (k b : ℕ) (target : Tree variable) (within : Variable) : Type 0 where
+  pub register : m .function (v .fn k) ⊢ b ∶ ptr target within
+  pub scope : within .number < regions (m .function (v .fn k))
+  pub alive : Live m (v .fn) (v .map) (suc k) (suc (v .map k (within .number)))
+  pub run : Stands m (heapTyping m v (suc k)) (close (v .map k) target) (v .map k (within .number)) (v .reg k b)
+
+-- The w bytes touched from x on lie in the value that register b names, and that value lies whole inside one object.
+pub record Touches (m : Module) (v : View) (k b x w : ℕ) : Type 0 where
+  pub target : Tree variable
+  pub within : Variable
+  pub names : Names m v k b target within
+  pub address : v .reg k b ≡ x
+  pub object : (i : ℕ) → x ≤ i → i < x + size m target
+      → InObject i (x / pageBytes) (x % pageBytes / size m (typeOf m (v .fn) (v .map) (suc k) (v .map k (within .number)))) (size m (typeOf m (v .fn) (v .map) (suc k) (v .map k (within .number))))
+  pub bytes : (i : ℕ) → x ≤ i → i < x + w → InRun m (close (v .map k) target) x i
+
+-- ---- how many bytes stray
+
+-- address i lies in the value that register b names
+pub record InValue (m : Module) (v : View) (k b i : ℕ) : Type 0 where
+  pub target : Tree variable
+  pub within : Variable
+  pub names : Names m v k b target within
+  pub byte : InRun m (close (v .map k) target) (v .reg k b) i
+
+-- that is decided: for a list of primitives, for a register's type, and whole
+unfoldable pub decInPrimitives : (l : List (Placed live)) (x i : ℕ) → Dec (InPrimitives l x i)
+decInPrimitives [] x i = no (λ h. elim (h .has) [ ])
+decInPrimitives (at d T ∷ l) x i = mapDec
+    (λ h. elim h [
+      | inl a ↦ record { distance = d; type = T; has = here; low = a .0; high = a .1 }
+      | inr a ↦ record { distance = a .distance; type = a .type; has = there (a .has); low = a .low; high = a .high }
+    ])
+    (λ h. one (h .has) (h .low) (h .high))
+    (decEither (decBoth (decLe (x + d) i) (decLt i (x + d + width T))) (decInPrimitives l x i))
+  where
+    one : {e : ℕ} {U : Tree live} → Has (at d T ∷ l) e U → x + e ≤ i → i < x + e + width U → ((x + d ≤ i) × (i < x + d + width T)) ⊎ InPrimitives l x i
+    one here low high = inl (low, high)
+    one {e} {U} (there h) low high = inr (record { distance = e; type = U; has = h; low = low; high = high })
+
+unfoldable pub decNames : (m : Module) (v : View) (k b : ℕ) (T : Tree variable) (r : Variable) → Dec (Names m v k b T r)
+decNames m v k b T r = mapDec (λ h. record { register = h .0; scope = h .1 .0; alive = h .1 .1 .0; run = h .1 .1 .1 }) (λ h. (h .register, (h .scope, (h .alive, h .run))))
+    (decBoth (decReg (m .function (v .fn k)) b (ptr T r)) (decBoth (decLt (r .number) (regions (m .function (v .fn k))))
+    (decBoth (decLive m (v .fn) (v .map) (suc k) (suc (v .map k (r .number)))) (decStands m (heapTyping m v (suc k)) (close (v .map k) T) (v .map k (r .number)) (v .reg k b)))))
+
+unfoldable pub decInValue : (m : Module) (v : View) (k b i : ℕ) → Dec (InValue m v k b i)
+decInValue m v k b i = mapDec (λ h. record { target = h .0; within = h .1 .0; names = h .1 .1 .0; byte = h .1 .1 .1 }) (λ h. (h .target, (h .within, (h .names, h .byte))))
+    (withPtr (m .function (v .fn k)) b _ (λ T r h. h .0 .register .1) (λ T r. decBoth (decNames m v k b T r) (decInPrimitives (flat m (close (v .map k) T) .prims) (v .reg k b) i)))
+
+-- how many of the w addresses from x on do not lie in that value
+unfoldable pub strayFrom : Module → View → (k b x w : ℕ) → ℕ
+strayFrom m v k b x zero = 0
+strayFrom m v k b x (suc w) = strayFrom m v k b x w + cond (does (decInValue m v k b (x + w))) 0 1
+
+-- the bytes that an effect touches by a load or a store outside the value that its pointer names
+abbrev pub strayBy : Module → View → ℕ → Effect → ℕ
+strayBy m v k (assign a x) = 0
+strayBy m v k (fetch b a x w) = strayFrom m v k b x w
+strayBy m v k (save b x w y) = strayFrom m v k b x w
+strayBy m v k (takePlace p j a x) = 0
+strayBy m v k (grantPage p r a) = 0
+strayBy m v k (freePlace p j) = 0
+strayBy m v k (goTo d) = 0
+strayBy m v k (emit x) = 0
+strayBy m v k (push g μ ρ) = 0
+strayBy m v k (pop c a x) = 0
+strayBy m v k (finish x) = 0
+strayBy m v k (stop n) = 0
+strayBy m v k stuck = 0
+
+-- "The number of bytes that its loads and stores touch outside the value their pointer's type names, whole inside one object, used
+-- or free, of a live region in scope"
+unfoldable pub strayBytes : Module → List Step → ℕ
+strayBytes m [] = 0
+strayBytes m (t ∷ ts) = strayBy m (view (t .state)) (t .top) (t .effect) + strayBytes m ts
+
+-- ---- what a load fetches
+
+-- The w bytes from x on, as a number, are a value of the type of register a of the top frame k: no "value of a stated type that is not
+-- there". It is a claim and no guard of the step, so that what a step does depends on no page byte.
+pub record Fetches (m : Module) (v : View) (k a x w : ℕ) : Type 0 where
+  pub register : a < m .function (v .fn k) .registers
+  pub value : Value m (heapTyping m v (suc k)) (close (v .map k) (m .function (v .fn k) .registerType a)) (memoryNumber (v .memory) x w)
+
+-- ---- what else a step depends on and changes
+
+-- states that differ in page bytes only
+pub record SameButPages (s t : Bytes) : Type 0 where
+  pub lengths : length s ≡ length t
+  pub bytes : (i : ℕ) → i < memoryAt → byteAt s i ≡ byteAt t i
+
+-- the page bytes that an effect reads
+abbrev pub Reads : Effect → ℕ → Type 0
+Reads (assign a x) i = ⊥
+Reads (fetch b a x w) i = (x ≤ i) × (i < x + w)
+Reads (save b x w y) i = ⊥
+Reads (takePlace p j a x) i = ⊥
+Reads (grantPage p r a) i = ⊥
+Reads (freePlace p j) i = ⊥
+Reads (goTo d) i = ⊥
+Reads (emit x) i = ⊥
+Reads (push g μ ρ) i = ⊥
+Reads (pop c a x) i = ⊥
+Reads (finish x) i = ⊥
+Reads (stop n) i = ⊥
+Reads stuck i = ⊥
+
+-- the page bytes that an effect may change: a store's, and a granted page
+abbrev pub Changes : Effect → ℕ → Type 0
+Changes (assign a x) i = ⊥
+Changes (fetch b a x w) i = ⊥
+Changes (save b x w y) i = (x ≤ i) × (i < x + w)
+Changes (takePlace p j a x) i = ⊥
+Changes (grantPage p r a) i = i / pageBytes ≡ p
+Changes (freePlace p j) i = ⊥
+Changes (goTo d) i = ⊥
+Changes (emit x) i = ⊥
+Changes (push g μ ρ) i = ⊥
+Changes (pop c a x) i = ⊥
+Changes (finish x) i = ⊥
+Changes (stop n) i = ⊥
+Changes stuck i = ⊥
+
+-- ---- one step of a list
+
+pub record SafeStep (m : Module) (t : Step) : Type 0 where
+  -- it is the step that the rules prescribe for the top frame
+  pub frame : view (t .state) .frames ≡ suc (t .top)
+  pub is : t .effect ≡ effectOf m (t .form) (view (t .state))
+  -- it moves on, ends or stops for a listed reason
+  pub moves : t .effect ≢ stuck
+  pub stops : (n : ℕ) → t .effect ≡ stop n → Listed n
+  -- loads and stores touch the value that their pointer's type names
+  pub loads : (b a x w : ℕ) → t .effect ≡ fetch b a x w → Touches m (view (t .state)) (t .top) b x w
+  pub stores : (b x w y : ℕ) → t .effect ≡ save b x w y → Touches m (view (t .state)) (t .top) b x w
+  -- what a load fetches is a value of its register's type
+  pub fetches : (b a x w : ℕ) → t .effect ≡ fetch b a x w → Fetches m (view (t .state)) (t .top) a x w
+  -- no other page byte bears on what it does or leaves, and none other is changed
+  pub decides : (s : Bytes) → SameButPages s (t .state) → effectOf m (t .form) (view s) ≡ t .effect
+  pub reads : (s : Bytes) → SameButPages s (t .state)
+      → ((i : ℕ) → i < memoryBytes → Reads (t .effect) i → byteAt s (memoryPlace i) ≡ byteAt (t .state) (memoryPlace i))
+      → SameButPages (applyState m (t .top) (t .effect) s) (stateAfter m t)
+  pub keeps : (i : ℕ) → i < memoryBytes → ¬ Changes (t .effect) i → byteAt (stateAfter m t) (memoryPlace i) ≡ byteAt (t .state) (memoryPlace i)
+  -- after it the state passes the state test
+  pub after : Passes m (stateAfter m t)
+
+abbrev pub AllSafe : Module → List Step → Type 0
+AllSafe m [] = Unit {0}
+AllSafe m (t ∷ ts) = SafeStep m t × AllSafe m ts
