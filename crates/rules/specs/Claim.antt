@@ -1,13 +1,13 @@
--- DEMAND 3 as a type: `Demand3` asks, for every file that the checker accepts, every state where a list of calls of going on may start
--- and every such list, for one record `Claim` about the list as a whole. `demand-3` (crate soundness) inhabits it. The record says:
--- each call answers: it is refused and changes nothing, or reports the rules' own steps and leaves their last state and output (answers);
--- no step is stuck (stuck), and no load or store touches a byte outside the value that its pointer's type names, a run of primitives
--- whole inside one object of a live region in scope (stray);
--- each step moves on, ends or stops for a listed reason, a load fetches a value of its register's type, no other page byte bears on a
--- step and none other is changed, and after each step the state passes the state test (steps);
--- after the list the state passes the state test (test) and is bytes (bytes);
--- pages owned at the end and handed back are as many as owned at the start and granted (pages), and none once the module has ended (none).
--- What these words mean stands in SafeStep (one step), Calls (lists of calls), then Host, Run and Step (the machine). Assumes nothing.
+-- DEMAND 3 as a type. `Demand3`: for every file that the checker accepts, every state where a list of calls of going on may start and
+-- every such list, one record `Claim` about the list as a whole. `demand-3` (crate soundness) inhabits it. The record says:
+-- answers: each call is refused and changes nothing, or reports the rules' own steps and leaves their last state and output;
+-- stuck: no step is stuck; stray: no load or store touches a byte outside the value that its pointer's type names, which is a run of
+--   primitives whole inside one object, used or free, of a live region in scope;
+-- steps: each step moves on, ends or stops for a listed reason; a load fetches a value of its register's type; no other page byte bears
+--   on a step and none other is changed; and after each step the state passes the state test;
+-- test, bytes: after the list the state passes the state test, and its elements are bytes;
+-- pages, none: owned at the end + handed back = owned at the start + granted, and no page is owned once the module has ended.
+-- What these words mean stands in SafeStep (one step) and Calls (lists of calls); the machine in Host, Run and Step. Assumes nothing.
 use mathlib.Core.Path.{_≡_}
 use mathlib.Core.List.{List}
 use Prim.Native.Nat.{_+_}
