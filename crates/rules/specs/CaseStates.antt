@@ -1,4 +1,4 @@
--- Modules and states for the cases of the machine side: small functions, and states of a few frames. Assumes nothing.
+-- Modules and states for the cases: small functions, and states of a few frames. Assumes nothing.
 use mathlib.Core.List.{List, [], _∷_}
 use Prim.Native.Nat.{ℕ}
 use lib.ListN.{length, getD}
@@ -52,7 +52,7 @@ moduleWith fields functions = record {
   function = λ g. getD functions g (functionWith 0 1 (int 4 ∷ []) 0 (registersFor (int 4)) (callPair ∷ []));
 }
 
--- "C1 {i8; i32}"; "C2 name 0 = {i32; i32 in 0}"; {i32; i8}
+-- fields {i8; i32}; {i32; pointer to i32 in region 0}; {i32; i8}
 abbrev pub byteAndWord : List (Tree variable)
 byteAndWord = int 1 ∷ int 4 ∷ []
 

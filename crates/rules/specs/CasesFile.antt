@@ -1,15 +1,14 @@
--- Document 01, "Small cases", C1 to C3, the worked file, and files of one block for the refusals, by computation. A file is
+-- Document 01's worked file, those of its case C3, and files of one block for the refusals, by computation. A file is
 -- written by its records, as document 01 writes them: each is filled up with zeros, and zeros follow. Assumes nothing.
 use mathlib.Core.Path.{_≡_, refl}
 use mathlib.Core.List.{List, [], _∷_, _++_}
-use Prim.Native.Nat.{ℕ, suc, _/_}
+use Prim.Native.Nat.{ℕ, suc}
 use native.Mathlib.Decide.{ℕ-discrete, decLt, decLe}
 use lib.ListN.{take, replicate}
 use Rattle.words.specs.Bytes.{Bytes}
-use Rattle.rules.specs.Limits.{recordBytes, checkAt, sizeLimit, pageBytes}
-use Rattle.rules.specs.Types.{variable, region, Tree, int, ptr, arr, struct}
-use Rattle.rules.specs.Module.{Module, Function, jump}
-use Rattle.rules.specs.Flat.{at, size}
+use Rattle.rules.specs.Limits.{recordBytes, checkAt, sizeLimit}
+use Rattle.rules.specs.Types.{variable, arr}
+use Rattle.rules.specs.Flat.{size}
 use Rattle.words.specs.Bytes.{number, little, listFrom}
 use Rattle.words.specs.First.{firstFrom, first, sumBelow}
 use Rattle.words.specs.Decide.{decBoth, decEither, decImp, decAll, decThe, mapDec, decList, decEach}
@@ -22,54 +21,22 @@ use Rattle.rules.specs.Quick.{along, quickRecords, quickOf}
 use Rattle.rules.specs.Records.{four, seven, fourLoose, sevenLoose, termFits, nameFits, headRanges, functionFits, listFits, regionBytesFit, instructionFits, argumentsFit, fitsIn, fits, recordTestWith}
 use Rattle.rules.specs.Stages.{verdict}
 use Rattle.rules.specs.Types.{decRegion, sub, decTree, decUses, decPrimitive}
-use Rattle.rules.specs.Verdict.{termTest, structTest, functionTest, instructionTest, instructionStage, lastTest, moduleStages, instructions, moduleRules}
+use Rattle.rules.specs.Verdict.{termTest, structTest, functionTest, instructionTest, instructionStage, lastTest, moduleStages, instructions, moduleRules, verdictOf}
 use Rattle.rules.specs.Walk.{toCode, toRegisters, opened, done, toFunction, toName, step, next, nextScan, scan, whole}
 use Rattle.rules.specs.WellTyped.{decCounts, decTerm, decStruct, scopeOf, decFunction, decEntry, decLast}
+use Rattle.rules.specs.CaseStates.{moduleWith, to, named}
 use Rattle.rules.specs.Table.{Case, case, Agree, agree}
 use Rattle.rules.specs.declared.Verdict.the-variants.{Accepted, Refused}
 
--- ---- C1 to C3 on flat types
-
-unfoldable pub noFunction : Function
-noFunction = record { regionParams = 0; locals = 0; registers = 0; params = 0; result = int 0; regionType = λ i. int 0; registerType = λ i. int 0; codeLength = 0; code = λ i. jump 0 }
-
--- a module whose only name has one region and these fields
-unfoldable pub named : List (Tree variable) → Module
-named Ts = record { terms = 0; term = λ t. int 0; structs = 1; arity = λ N. 1; fields = λ N. Ts; functions = 0; function = λ g. noFunction }
-
--- name 0 for region r
-unfoldable pub name0 : ℕ → Tree variable
-name0 r = struct 0 (region r ∷ [])
-
--- "C1 {i8; i32} has size 5, 51 to a page"
-pub C1 : size (named (int 1 ∷ int 4 ∷ [])) (name0 0) ≡ 5
-unfolding flat layouts fieldsFrom fieldsWith flatWith beside subLayout named name0
-C1 = refl
-
-pub C1-page : pageBytes / 5 ≡ 51
-C1-page = refl
-
--- "C2 name 0 = {i32; i32 in 0} for region 2 is i32, i32 in 2"
-pub C2 : flat (named (int 4 ∷ ptr (int 4) (region 0) ∷ [])) (name0 2) .prims ≡ at 0 (int 4) ∷ at 4 (ptr (int 4) (region 2)) ∷ []
-unfolding flat layouts fieldsFrom fieldsWith flatWith beside subLayout sub named name0
-C2 = refl
-
--- "C3 i8 times 256 is accepted; with an i8 more, 5"
-pub C3 : size {k = variable} (named []) (arr 256 (int 1)) ≡ sizeLimit
-unfolding flat layouts fieldsFrom fieldsWith flatWith copies copiesOf named
-C3 = refl
-
-pub C3-more : size (named (arr 256 (int 1) ∷ int 1 ∷ [])) (name0 0) ≡ suc sizeLimit
-unfolding flat layouts fieldsFrom fieldsWith flatWith beside copies copiesOf subLayout named name0
-C3-more = refl
+-- ---- flat types
 
 -- a name that mentions itself outside pointers has no size; under a pointer it may
-pub own-outside : size (named (arr 2 (name0 0) ∷ [])) (name0 0) ≡ suc sizeLimit
-unfolding flat layouts fieldsFrom fieldsWith flatWith beside copies copiesOf subLayout named name0
+pub own-outside : size {k = variable} (moduleWith ((arr 2 (named 0) ∷ []) ∷ []) []) (named 0) ≡ suc sizeLimit
+unfolding flat layouts fieldsFrom fieldsWith flatWith beside copies copiesOf subLayout
 own-outside = refl
 
-pub own-under : size (named (ptr (name0 0) (region 0) ∷ [])) (name0 0) ≡ 4
-unfolding flat layouts fieldsFrom fieldsWith flatWith beside subLayout named name0
+pub own-under : size {k = variable} (moduleWith ((to (named 0) ∷ []) ∷ []) []) (named 0) ≡ 4
+unfolding flat layouts fieldsFrom fieldsWith flatWith beside subLayout
 own-under = refl
 
 -- ---- files
@@ -94,12 +61,25 @@ workedRecords = (1 ∷ 4 ∷ []) ∷ (7 ∷ 0 ∷ 0 ∷ 1 ∷ 0 ∷ 0 ∷ 2 ∷ 
 unfoldable pub worked : Bytes
 worked = file workedRecords 3474
 
+-- C3's: one with a term i8 times 256, and one with a name, in record 4, of this term and an i8 more
+unfoldable pub largestTerm : Bytes
+largestTerm = file ((1 ∷ 1 ∷ []) ∷ (1 ∷ 2 ∷ []) ∷ (1 ∷ 4 ∷ []) ∷ (3 ∷ 0 ∷ 0 ∷ 0 ∷ 0 ∷ 1 ∷ []) ∷ (7 ∷ 0 ∷ 0 ∷ 1 ∷ 2 ∷ 0 ∷ 1 ∷ []) ∷ (9 ∷ 2 ∷ []) ∷ (34 ∷ []) ∷ []) 3008
+
+unfoldable pub byteMore : Bytes
+byteMore = file
+    ((1 ∷ 1 ∷ []) ∷ (1 ∷ 2 ∷ []) ∷ (1 ∷ 4 ∷ []) ∷ (3 ∷ 0 ∷ 0 ∷ 0 ∷ 0 ∷ 1 ∷ []) ∷ (5 ∷ 0 ∷ 2 ∷ []) ∷ (6 ∷ 3 ∷ []) ∷
+    (7 ∷ 0 ∷ 0 ∷ 1 ∷ 2 ∷ 0 ∷ 1 ∷ []) ∷ (9 ∷ 2 ∷ []) ∷ (34 ∷ []) ∷ []) 4575
+
 abbrev pub table : List Case
 table =
     -- "print: accepted 1 0 1 2"
     case worked (Accepted 1 0 1 2) ∷
-    -- no block; a byte less; a byte more
+    -- no block
     case [] (Refused 1 0) ∷
+    -- C3's two
+    case largestTerm (Accepted 4 0 1 1) ∷
+    case byteMore (Refused 5 4) ∷
+    -- a byte less; a byte more
     case (take 511 worked) (Refused 1 0) ∷
     case (worked ++ 0 ∷ []) (Refused 1 0) ∷
     -- place, count and check, "2 first"
@@ -107,9 +87,6 @@ table =
     case (fileOf 0 2 workedRecords 3477) (Refused 2 0) ∷
     case (fileOf 1 1 workedRecords 3474) (Refused 2 0) ∷
     case (file workedRecords 3473) (Refused 3 0) ∷
-    -- C3, "i8 times 256 is accepted"
-    case (file ((1 ∷ 1 ∷ []) ∷ (1 ∷ 2 ∷ []) ∷ (1 ∷ 4 ∷ []) ∷ (3 ∷ 0 ∷ 0 ∷ 0 ∷ 0 ∷ 1 ∷ []) ∷
-    (7 ∷ 0 ∷ 0 ∷ 1 ∷ 2 ∷ 0 ∷ 1 ∷ []) ∷ (9 ∷ 2 ∷ []) ∷ (34 ∷ []) ∷ []) 3008) (Accepted 4 0 1 1) ∷
     -- a call for region 1, with its 35
     case (file ((1 ∷ 1 ∷ []) ∷ (1 ∷ 2 ∷ []) ∷ (1 ∷ 4 ∷ []) ∷ (7 ∷ 0 ∷ 2 ∷ 1 ∷ 2 ∷ 0 ∷ 2 ∷ []) ∷ (8 ∷ 2 ∷ 2 ∷ []) ∷
     (9 ∷ 2 ∷ []) ∷ (33 ∷ 0 ∷ 1 ∷ 0 ∷ 1 ∷ []) ∷ (35 ∷ []) ∷ (34 ∷ []) ∷ (7 ∷ 1 ∷ 0 ∷ 1 ∷ 2 ∷ 1 ∷ 1 ∷ []) ∷
@@ -122,9 +99,6 @@ table =
     case (file ((1 ∷ 1 ∷ []) ∷ (1 ∷ 2 ∷ []) ∷ (1 ∷ 4 ∷ []) ∷ (2 ∷ 2 ∷ []) ∷ (7 ∷ 0 ∷ 1 ∷ 2 ∷ 2 ∷ 0 ∷ 3 ∷ []) ∷
     (8 ∷ 2 ∷ []) ∷ (9 ∷ 2 ∷ 3 ∷ []) ∷ (27 ∷ 1 ∷ []) ∷ (33 ∷ 0 ∷ 3 ∷ []) ∷ (35 ∷ 0 ∷ 1 ∷ []) ∷ (34 ∷ []) ∷
     (7 ∷ 1 ∷ 0 ∷ 2 ∷ 2 ∷ 2 ∷ 1 ∷ []) ∷ (8 ∷ 2 ∷ []) ∷ (9 ∷ 2 ∷ 3 ∷ []) ∷ (99 ∷ []) ∷ []) 27491) (Refused 4 14) ∷
-    -- C3, "with an i8 more, 5"
-    case (file ((1 ∷ 1 ∷ []) ∷ (1 ∷ 2 ∷ []) ∷ (1 ∷ 4 ∷ []) ∷ (3 ∷ 0 ∷ 0 ∷ 0 ∷ 0 ∷ 1 ∷ []) ∷ (5 ∷ 0 ∷ 2 ∷ []) ∷
-    (6 ∷ 3 ∷ []) ∷ (7 ∷ 0 ∷ 0 ∷ 1 ∷ 2 ∷ 0 ∷ 1 ∷ []) ∷ (9 ∷ 2 ∷ []) ∷ (34 ∷ []) ∷ []) 4575) (Refused 5 4) ∷
     -- a name that mentions itself outside pointers: its term comes first
     case (file ((1 ∷ 1 ∷ []) ∷ (1 ∷ 2 ∷ []) ∷ (1 ∷ 4 ∷ []) ∷ (4 ∷ []) ∷ (5 ∷ 0 ∷ 1 ∷ []) ∷ (6 ∷ 3 ∷ []) ∷
     (7 ∷ 0 ∷ 0 ∷ 1 ∷ 2 ∷ 0 ∷ 1 ∷ []) ∷ (9 ∷ 2 ∷ []) ∷ (34 ∷ []) ∷ []) 4531) (Refused 5 3) ∷
@@ -153,12 +127,12 @@ table =
     (6 ∷ 2 ∷ 14 ∷ 2 ∷ []) ∷ (7 ∷ 0 ∷ 3 ∷ 17 ∷ 2 ∷ 0 ∷ 2 ∷ []) ∷ (8 ∷ 3 ∷ 9 ∷ 2 ∷ []) ∷
     (9 ∷ 2 ∷ 0 ∷ 1 ∷ 4 ∷ 5 ∷ 6 ∷ 8 ∷ []) ∷ (9 ∷ 10 ∷ 11 ∷ 12 ∷ 13 ∷ 15 ∷ 17 ∷ 18 ∷ []) ∷
     (9 ∷ 20 ∷ 22 ∷ 16 ∷ []) ∷ (17 ∷ 4 ∷ 9 ∷ []) ∷ (34 ∷ []) ∷ []) 122295) (Refused 7 34) ∷
-    -- C2: the field of name 0 for region 2 does not point into region 0
+    -- name 0 = {i32; pointer to i32 in region 0}: for region 2 its field does not point into region 0
     case (file ((1 ∷ 1 ∷ []) ∷ (1 ∷ 2 ∷ []) ∷ (1 ∷ 4 ∷ []) ∷ (2 ∷ 2 ∷ []) ∷ (4 ∷ 0 ∷ 1 ∷ 0 ∷ 2 ∷ []) ∷ (2 ∷ 4 ∷ 1 ∷ []) ∷
     (2 ∷ 3 ∷ 1 ∷ []) ∷ (5 ∷ 1 ∷ 2 ∷ []) ∷ (6 ∷ 2 ∷ 3 ∷ []) ∷ (7 ∷ 0 ∷ 3 ∷ 4 ∷ 2 ∷ 0 ∷ 5 ∷ []) ∷
     (8 ∷ 0 ∷ 4 ∷ 2 ∷ []) ∷ (9 ∷ 2 ∷ 5 ∷ 6 ∷ 3 ∷ []) ∷ (27 ∷ 1 ∷ []) ∷ (23 ∷ 2 ∷ 1 ∷ 0 ∷ 1 ∷ []) ∷
     (25 ∷ 3 ∷ 2 ∷ []) ∷ (21 ∷ 0 ∷ 3 ∷ []) ∷ (34 ∷ []) ∷ []) 24524) (Refused 7 13) ∷
-    -- C2: it points into region 2
+    -- but into region 2
     case (file ((1 ∷ 1 ∷ []) ∷ (1 ∷ 2 ∷ []) ∷ (1 ∷ 4 ∷ []) ∷ (2 ∷ 2 ∷ []) ∷ (4 ∷ 0 ∷ 1 ∷ 0 ∷ 2 ∷ []) ∷ (2 ∷ 4 ∷ 1 ∷ []) ∷
     (2 ∷ 2 ∷ 2 ∷ []) ∷ (2 ∷ 6 ∷ 1 ∷ []) ∷ (5 ∷ 1 ∷ 2 ∷ []) ∷ (6 ∷ 2 ∷ 3 ∷ []) ∷
     (7 ∷ 0 ∷ 3 ∷ 4 ∷ 2 ∷ 0 ∷ 5 ∷ []) ∷ (8 ∷ 0 ∷ 4 ∷ 2 ∷ []) ∷ (9 ∷ 2 ∷ 5 ∷ 7 ∷ 6 ∷ []) ∷ (27 ∷ 1 ∷ []) ∷
@@ -174,5 +148,12 @@ table =
     []
 
 pub agrees : Agree table
-unfolding number little listFrom firstFrom first sumBelow decBoth decEither decImp decAll decThe mapDec decList decEach asInt asPtr asArr decReg withInt withPtr anInt aPtr decConstant decCopy decOperate decZero decSigned decAddress decCheck decField decIndex decThrough decLoad decStore decWhole decNew decFree decInput decOutput decJump decBranch decCall decReturn decTyped regionBytes treeOf treesOf fieldsOf places codePlaces callOf arithmeticOf memoryOf controlOf byGroup instructionOf codeOf functionOf moduleOf startOf instructionAt checkSum blockTest records recordStart recordOf groupOf decPlaced decPrims beside copiesOf copies subLayout flatWith fieldsFrom fieldsWith layouts flat structFlat decRun decSame operandTable classesOf operandFits along quickRecords quickOf four seven fourLoose sevenLoose termFits nameFits headRanges functionFits listFits regionBytesFit instructionFits argumentsFit fitsIn fits recordTestWith verdict decRegion sub decTree decUses decPrimitive termTest structTest functionTest instructionTest instructionStage lastTest moduleStages instructions moduleRules toCode toRegisters opened done toFunction toName step next nextScan scan whole decCounts decTerm decStruct scopeOf decFunction decEntry decLast ℕ-discrete decLt decLe recordsBytes fileOf file workedRecords worked
+unfolding number little listFrom firstFrom first sumBelow decBoth decEither decImp decAll decThe mapDec decList decEach asInt asPtr asArr decReg withInt withPtr anInt aPtr decConstant decCopy decOperate decZero decSigned decAddress decCheck decField decIndex decThrough decLoad decStore decWhole decNew decFree decInput decOutput decJump decBranch decCall decReturn decTyped regionBytes treeOf treesOf fieldsOf places codePlaces callOf arithmeticOf memoryOf controlOf byGroup instructionOf codeOf functionOf moduleOf startOf instructionAt checkSum blockTest records recordStart recordOf groupOf decPlaced decPrims beside copiesOf copies subLayout flatWith fieldsFrom fieldsWith layouts flat structFlat decRun decSame operandTable classesOf operandFits along quickRecords quickOf four seven fourLoose sevenLoose termFits nameFits headRanges functionFits listFits regionBytesFit instructionFits argumentsFit fitsIn fits recordTestWith verdict decRegion sub decTree decUses decPrimitive termTest structTest functionTest instructionTest instructionStage lastTest moduleStages instructions moduleRules toCode toRegisters opened done toFunction toName step next nextScan scan whole decCounts decTerm decStruct scopeOf decFunction decEntry decLast ℕ-discrete decLt decLe recordsBytes fileOf file workedRecords worked largestTerm byteMore
 agrees = agree table refl
+
+-- of these, C3's two
+pub largest-accepted : verdictOf largestTerm ≡ Accepted 4 0 1 1
+largest-accepted = agrees .1 .1 .0
+
+pub more-refused : verdictOf byteMore ≡ Refused 5 4
+more-refused = agrees .1 .1 .1 .0

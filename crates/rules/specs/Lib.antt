@@ -30,8 +30,9 @@ pub mod Claim
 -- small cases by computation: nothing below says what the rules are
 pub mod Quick
 pub mod Table
-pub mod CasesFile
 pub mod CaseStates
+pub mod CasesFile
 pub mod CasesStep
-pub mod CasesMachine
 pub mod CasesTest
+pub mod Cases
+pub mod CasesMachine

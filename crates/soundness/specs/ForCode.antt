@@ -1,6 +1,6 @@
 -- What the code takes from the theorem. A state of an accepted module that passes the test is `Steady`: no step from it is stuck, each
 -- effect keeps within the layout's bounds, and the state after it is steady again. Then what answers say: "running means the whole
--- budget is used", C10 for every accepted module, and where the reader's part lies. Assumes nothing.
+-- budget is used", C10 for every file that opens, and where the reader's part lies. Assumes nothing.
 use mathlib.Core.Path.{_≡_, refl, sym, ap, _∙_, subst}
 use mathlib.Core.Bool.{Bool, true, false, cond, _&&_}
 use mathlib.Core.Logic.{_≢_}
@@ -25,8 +25,9 @@ use Rattle.rules.specs.Heap.{typeOf}
 use Rattle.rules.specs.Step.{stuck, effectOf}
 use Rattle.rules.specs.Run.{Step, stepOf, stateAfter, outputAfter, Trace, noSteps, runOf, stuckSteps}
 use Rattle.rules.specs.StateTest.{Passes, decPasses}
-use Rattle.rules.specs.Host.{Outcome, ended, stopped, running, Went, refused, went, noAnswer, opened, Part, emptyPart, onVerdict, outcomeOf, wentOf, goOf, firstState, openOf, objectIn, objectOf}
+use Rattle.rules.specs.Host.{Outcome, ended, stopped, running, Went, refused, went, noAnswer, Opened, notOpened, opened, Part, emptyPart, onVerdict, outcomeOf, wentOf, goOf, firstState, openOf, objectIn, objectOf}
 use Rattle.rules.specs.SafeStep.{SafeStep}
+use Rattle.rules.specs.Cases.{BudgetZero}
 use Rattle.rules.specs.declared.Verdict.{Verdict}
 use Rattle.rules.specs.declared.Verdict.the-variants.{Accepted, Refused}
 use Rattle.state.specs.Effects.{Bounded}
@@ -157,11 +158,16 @@ opened-steady f xs old t acc z e =
     subst (λ (y : Bytes). Steady (moduleOf f) y × (view y .status ≡ 0)) (opened-first f acc xs old t e)
     (record { bytes = whole .bytes; passes = test-passes (moduleOf f) ok s (whole .size) (whole .spare) (opened-test (moduleOf f) ok xs z) }, opened-running (moduleOf f) ok xs z)
 
--- "C10 budget 0 on an open state: running, 0 steps": of every accepted module, with whichever form and output of their lengths
-pub budget-zero : (f xs old form o t : Bytes) → IsAccepted (verdictOf f) → AllBytes xs → openOf f xs old ≡ opened t → AllBytes form → length form ≤ mostForm → length o ≡ outputBytes
-    → goOf f form t o 0 ≡ went running 0 t o
-unfolding outcomeOf runOf
-budget-zero f xs old form o t acc z e h few k =
+-- a file that opens is accepted
+opened-accepted : (v : Verdict) (b : Opened) (t : Bytes) → onVerdict notOpened v b ≡ opened t → IsAccepted v
+opened-accepted (Accepted n k g i) b t e = tt
+opened-accepted (Refused n p) b t e = let z : _≡_ {A = ℕ} 0 1 = cc in absurd (omega arith)
+
+-- C10
+pub budget-zero : BudgetZero
+unfolding outcomeOf runOf openOf
+budget-zero f xs old form o t z e h few k =
+    let acc : IsAccepted (verdictOf f) = opened-accepted (verdictOf f) _ t e in
     let s = opened-steady f xs old t acc z e in
     go-went f form t o 0 acc h few (s .0 .bytes) (s .0 .passes) (s .1) k
     ∙ ap (λ (a : Outcome). went a 0 t o) (cond-eq running (cond (eqb (view t .status) 1) (ended (view t .result)) (stopped (view t .status))) (s .1))

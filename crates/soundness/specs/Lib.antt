@@ -27,3 +27,4 @@ pub mod Unowned
 pub mod Instance
 pub mod Worked
 pub mod Machines
+pub mod Cases

@@ -41,7 +41,7 @@ goes = worked-goes
 
 waits : goOf workedFile [] fresh blank 0 ≡ went running 0 fresh blank
 unfolding fresh blank
-waits = budget-zero workedFile [] (replicate stateBytes 7) [] (replicate outputBytes 0) (firstState (moduleOf workedFile) []) accepted-worked no-bytes (cases.worked .opens) no-bytes (omega arith)
+waits = budget-zero workedFile [] (replicate stateBytes 7) [] (replicate outputBytes 0) (firstState (moduleOf workedFile) []) no-bytes (cases.worked .opens) no-bytes (omega arith)
     (length-replicate {A = ℕ} outputBytes 0)
 
 -- the state after the run is not the one before it
