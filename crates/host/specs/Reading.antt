@@ -1,18 +1,24 @@
--- The reader's answer as rules' `Part`, and `objectOf` case by case, as the code goes. Assumes nothing.
+-- The reader's answer as rules' `Part`, `objectOf` case by case, as the code goes, and where that part lies in the lent state.
+-- Assumes nothing.
 use mathlib.Core.Path.{_≡_, refl, sym, ap, _∙_, subst}
 use mathlib.Core.Logic.{_≢_}
 use mathlib.Core.List.{[]}
-use mathlib.Core.Bool.{Bool, true, false, cond}
-use Prim.Native.Nat.{ℕ, _+_, _-_, _/_, _<_, _≤_}
-use native.Mathlib.Nat.{not-suc-le-zero}
+use mathlib.Core.Bool.{Bool, true, false, cond, _&&_}
+use Prim.Native.Nat.{ℕ, zero, suc, _+_, _-_, _*_, _/_, _%_, _<_, _≤_}
 use native.Mathlib.Omega.{arith}
-use lib.ListN.{length, take, drop}
+use lib.Dec.{ltb, leb}
+use lib.ListN.{length, take, drop, length-take, length-drop}
+use borrow.Author.Tests.{ltb-true}
+use denote.Ref.{RefT}
 use Rattle.words.specs.Bytes.{Bytes}
-use Rattle.words.specs.Choose.{cond-yes, cond-no}
+use Rattle.words.specs.Choose.{both, cond-yes, cond-no}
 use Rattle.words.specs.Decide.{does, does-true}
 use Rattle.rules.specs.Limits.{pageBytes, stateBytes}
 use Rattle.rules.specs.Decode.{moduleOf}
-use Rattle.rules.specs.State.{view}
+use Rattle.rules.specs.Module.{Module}
+use Rattle.rules.specs.Flat.{size}
+use Rattle.rules.specs.State.{View, view, pagePlace}
+use Rattle.rules.specs.Heap.{typeOf}
 use Rattle.rules.specs.StateTest.{decPasses}
 use Rattle.rules.specs.Verdict.{verdictOf, IsAccepted}
 use Rattle.rules.specs.Host as rules
@@ -44,40 +50,91 @@ module _ (f s : Bytes) (a : ℕ) where
     pub object-read : b ≡ true → {r : Area} → IsPart r (objectAt f s a) → partMeant (record { offset = r .offset; size = r .size }) ≡ rules.objectOf f s a
     object-read d h = (λ i. record { offset = h .offset i; size = h .size i }) ∙ sym (object-passed d)
 
+-- ---- which parts there are
+
+-- the object of n bytes around address a
+abbrev pub partAround : (n a : ℕ) → rules.Part
+partAround n a = record { offset = pagePlace (a / pageBytes) + n * (a % pageBytes / n); size = n }
+
+-- the reader finds nothing, or an object around the address in a state of the right length
+data Reads (s : Bytes) (a : ℕ) : rules.Part → Type 0 where
+  nothing : Reads s a rules.emptyPart
+  object : {n : ℕ} → 0 < n → length s ≡ stateBytes → Reads s a (partAround n a)
+
+reads-in : (m : Module) (v : View) (s : Bytes) (a x : ℕ) → length s ≡ stateBytes → Reads s a (rules.objectIn m v a x)
+unfolding rules.objectIn
+reads-in m v s a zero l = nothing
+reads-in m v s a (suc r) l = go (size m (typeOf m (v .fn) (v .map) (v .frames) r))
+  where
+    found : (n : ℕ) (b : Bool) → ltb 0 n && leb (n * suc (a % pageBytes / n)) pageBytes ≡ b → Reads s a (cond b (partAround n a) rules.emptyPart)
+    found n true e = object (ltb-true 0 n (both (ltb 0 n) (leb (n * suc (a % pageBytes / n)) pageBytes) e .0)) l
+    found n false e = nothing
+
+    go : (n : ℕ) → Reads s a (cond (ltb 0 n && leb (n * suc (a % pageBytes / n)) pageBytes) (partAround n a) rules.emptyPart)
+    go n = found n (ltb 0 n && leb (n * suc (a % pageBytes / n)) pageBytes) refl
+
+object-reads : (f s : Bytes) (a : ℕ) → Reads s a (rules.objectOf f s a)
+unfolding rules.objectOf
+object-reads f s a = go (verdictOf f) (does (decPasses (moduleOf f) s)) refl
+  where
+    go : (v : Verdict) (b : Bool) → does (decPasses (moduleOf f) s) ≡ b
+        → Reads s a (rules.onVerdict (λ n p. rules.emptyPart) v (cond b (rules.objectIn (moduleOf f) (view s) a (view s .owner (a / pageBytes))) rules.emptyPart))
+    go (verdicts.Accepted t n g i) true e = reads-in (moduleOf f) (view s) s a (view s .owner (a / pageBytes)) (does-true (decPasses (moduleOf f) s) e .size)
+    go (verdicts.Accepted t n g i) false e = nothing
+    go (verdicts.Refused n p) b e = nothing
+
+reads-empty : {s : Bytes} {a : ℕ} {p : rules.Part} → Reads s a p → p .size ≡ 0 → p .offset ≡ 0
+reads-empty nothing z = refl
+reads-empty (object h l) z = absurd (omega arith)
+
+reads-fits : {s : Bytes} {a : ℕ} {p : rules.Part} → Reads s a p → (0 < p .size → p .offset + p .size ≤ stateBytes) → (p .offset + p .size ≤ length s) × (p .offset + p .size ≤ stateBytes)
+reads-fits nothing i = (omega arith, omega arith)
+reads-fits (object h l) i = let j = i h in (omega arith, j)
+
+-- its numbers follow from its size
+reads-numbers : {s : Bytes} {a : ℕ} {p : rules.Part} → Reads s a p → rules.partNumbers (partAround (p .size) a) ≡ rules.partNumbers p
+unfolding rules.partNumbers
+reads-numbers nothing = refl
+reads-numbers (object h l) = refl
+
 -- ---- the part itself
 
 -- its bytes
 abbrev pub bytesOf : rules.Part → Bytes → Bytes
 bytesOf p s = take (p .size) (drop (p .offset) s)
 
--- only a state of the right length has objects
-object-long : (f s : Bytes) (a : ℕ) → 0 < rules.objectOf f s a .size → length s ≡ stateBytes
-unfolding rules.objectOf
-object-long f s a = go (verdictOf f) (does (decPasses (moduleOf f) s)) refl
-  where
-    made : Verdict → Bool → rules.Part
-    made v b = rules.onVerdict (λ n p. rules.emptyPart) v (cond b (rules.objectIn (moduleOf f) (view s) a (view s .owner (a / pageBytes))) rules.emptyPart)
+-- r is part p of the bytes that s refers to, in place: it starts at p's offset there, and has p's bytes
+pub record IsPartOf (r s : RefT Bytes) (p : rules.Part) : Type 0 where
+  pub place : r .ptr ≡ (s .ptr .0, s .ptr .1 + p .offset)
+  pub bytes : r .now ≡ bytesOf p (s .now)
 
-    go : (v : Verdict) (b : Bool) → does (decPasses (moduleOf f) s) ≡ b → 0 < made v b .size → length s ≡ stateBytes
-    go (verdicts.Accepted t n g i) true e l = does-true (decPasses (moduleOf f) s) e .size
-    go (verdicts.Accepted t n g i) false e l = absurd (not-suc-le-zero l)
-    go (verdicts.Refused n p) b e l = absurd (not-suc-le-zero l)
+-- it lies in the lent state, so that its bytes are as many as its size says
+object-fits : (f s : Bytes) (a : ℕ) → (rules.objectOf f s a .offset + rules.objectOf f s a .size ≤ length s) × (rules.objectOf f s a .offset + rules.objectOf f s a .size ≤ stateBytes)
+object-fits f s a = reads-fits (object-reads f s a) (λ h. object-inside f s a h .end)
 
--- an object lies in the lent state
-pub part-fits : (f s : Bytes) (a : ℕ) {p : Part} → partMeant p ≡ rules.objectOf f s a → p .size ≢ 0 → (p .offset + p .size ≤ length s) × (length s ≡ stateBytes)
-part-fits f s a {p} e d =
-    let l : 0 < p .size = omega (arith, d) in
-    let q : 0 < rules.objectOf f s a .size = subst (λ (x : rules.Part). 0 < x .size) e l in
-    let i = object-inside f s a q .end in
-    let j = object-long f s a q in
-    let k : rules.objectOf f s a .offset + rules.objectOf f s a .size ≤ length s = omega arith in
-    (subst (λ (x : rules.Part). x .offset + x .size ≤ length s) (sym e) k, j)
+object-bytes : (f s : Bytes) (a : ℕ) → length (bytesOf (rules.objectOf f s a) s) ≡ rules.objectOf f s a .size
+object-bytes f s a = simp (length-take, length-drop) (omega (arith, object-fits f s a))
 
-module _ (f s : Bytes) (a : ℕ) {p : Part} (e : partMeant p ≡ rules.objectOf f s a) where
-  pub bytes-none : p .size ≡ 0 → [] ≡ bytesOf (rules.objectOf f s a) s
-  bytes-none z = ap (λ (n : ℕ). take n (drop (p .offset) s)) (sym z) ∙ ap (λ (x : rules.Part). bytesOf x s) e
+-- and its numbers follow from how many they are
+pub object-numbers : (f : Bytes) {r s : RefT Bytes} (a : ℕ) → IsPartOf r s (rules.objectOf f (s .now) a)
+    → rules.partNumbers (partAround (length (r .now)) a) ≡ rules.partNumbers (rules.objectOf f (s .now) a)
+object-numbers f {r} {s} a h =
+    ap (λ (n : ℕ). rules.partNumbers (partAround n a)) (ap length (h .bytes) ∙ object-bytes f (s .now) a) ∙ reads-numbers (object-reads f (s .now) a)
 
-  pub bytes-some : take (p .offset + p .size - p .offset) (drop (p .offset) s) ≡ bytesOf (rules.objectOf f s a) s
-  bytes-some =
-      let q : p .offset + p .size - p .offset ≡ p .size = omega arith in
-      ap (λ (n : ℕ). take n (drop (p .offset) s)) q ∙ ap (λ (x : rules.Part). bytesOf x s) e
+-- ---- as the code goes
+
+pub part-fits : (f s : Bytes) (a : ℕ) {p : Part} → partMeant p ≡ rules.objectOf f s a → (p .offset + p .size ≤ length s) × (p .offset + p .size ≤ stateBytes)
+part-fits f s a e = subst (λ (x : rules.Part). (x .offset + x .size ≤ length s) × (x .offset + x .size ≤ stateBytes)) (sym e) (object-fits f s a)
+
+-- an empty part starts where the state does
+pub part-starts : (f s : Bytes) (a : ℕ) {p : Part} → partMeant p ≡ rules.objectOf f s a → p .size ≡ 0 → p .offset ≡ 0
+part-starts f s a e = subst (λ (x : rules.Part). x .size ≡ 0 → x .offset ≡ 0) (sym e) (reads-empty (object-reads f s a))
+
+-- the part from byte i up to byte j of the state, where these are the answer's
+pub part-lies : (f : Bytes) {r s : RefT Bytes} (a : ℕ) {p : Part} (i j : ℕ) → partMeant p ≡ rules.objectOf f (s .now) a
+    → r .ptr ≡ (s .ptr .0, i + s .ptr .1) → r .now ≡ take (j - i) (drop i (s .now)) → i ≡ p .offset → j ≡ p .offset + p .size → IsPartOf r s (rules.objectOf f (s .now) a)
+part-lies f {r} {s} a {p} i j e q h start end =
+    let o : i + s .ptr .1 ≡ s .ptr .1 + p .offset = omega arith in
+    let n : j - i ≡ p .size = omega arith in
+    subst (λ (x : rules.Part). IsPartOf r s x) e
+    (record { place = q ∙ ap (λ (x : ℕ). (s .ptr .0, x)) o; bytes = h ∙ (λ k. take (n k) (drop (start k) (s .now))) })

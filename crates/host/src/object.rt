@@ -2,7 +2,7 @@
 ghost use mathlib.Core.Path.{_≡_};
 ghost use Rattle.rules.specs.Verdict.{verdictOf, IsAccepted};
 ghost use Rattle.rules.specs.Host.{objectOf};
-ghost use Rattle.host.specs.Reading.{partMeant, bytesOf};
+ghost use Rattle.host.specs.Reading.{partMeant, IsPartOf};
 use crate::tables::passes;
 use crate::tables::tables_of;
 use rules::Verdict;
@@ -60,9 +60,9 @@ pub fn object(file: &[u8], s: &[u8], address: u32) -> Part
     }
 }
 
-// That part of the lent state itself.
+// That part of the lent state itself, in place; the empty part is where the state starts.
 pub fn inspect<'a>(file: &[u8], s: &'a [u8], address: u32) -> &'a [u8]
-    ensures { λ r. ⌜ now r ≡ bytesOf (objectOf (now (file .entry)) (now (s .entry)) address) (now (s .entry)) ⌝ }
+    ensures { λ r. ⌜ IsPartOf r (s .entry) (objectOf (now (file .entry)) (now (s .entry)) address) ⌝ }
 {
     let p = object(file, s, address);
     let n = p.size;
