@@ -8,13 +8,14 @@ ghost use Rattle.words.specs.Bytes.{Bytes};
 ghost use Rattle.opening.specs.Opening.{openedMeant};
 ghost use Rattle.host.specs.Going.{wentMeant};
 ghost use Rattle.host.specs.Testing.{testedMeant};
-ghost use Rattle.host.specs.Reading.{partMeant};
+ghost use Rattle.host.specs.Reading.{partAround};
 ghost use Rattle.rcm.specs.Answer.{SmallCounts};
 use host::go::Went;
-use host::object::Part;
 use host::test::Tested;
 use opening::Opened;
 use rules::Verdict;
+use state::Machine;
+use state::places::page_place;
 
 // Functions and instructions in one number.
 fn packed(functions: usize, instructions: usize) -> u64
@@ -79,15 +80,17 @@ fn test_numbers(r: Tested) -> [u64; 4]
     }
 }
 
-// The numbers of the reader's answer: zeros for an empty part.
-fn part_numbers(p: Part) -> [u64; 4]
-    ensures { λ a. ⌜ a ≡ partNumbers (partMeant p) ⌝ }
+// The numbers of the reader's answer, zeros for an empty part. Objects lie at multiples of their size in a page, so that size and
+// address give the offset.
+fn part_numbers(size: usize, address: u32) -> [u64; 4]
+    ensures { λ a. ⌜ a ≡ partNumbers (partAround size address) ⌝ }
 {
-    let n = p.size;
-    if n == 0 {
+    if size == 0 {
         return [0, 0, 0, 0];
     }
-    [1, p.offset as u64, n as u64, 0]
+    let place = (address % Machine::PAGE_BYTES) as usize / size;
+    let offset = page_place(address / Machine::PAGE_BYTES) + size * place;
+    [1, offset as u64, size as u64, 0]
 }
 
 // The verdict on a module file.
@@ -138,6 +141,6 @@ pub extern "C" fn rcm_test(file: &[u8], state: &[u8], answer: &mut [u64; 4])
 pub extern "C" fn rcm_object(file: &[u8], state: &[u8], address: u32, answer: &mut [u64; 4])
     ensures { λ _. ⌜ now (answer .exit) ≡ partNumbers (objectOf (now (file .entry)) (now (state .entry)) address) ⌝ }
 {
-    let p = host::object::object(file, state, address);
-    *answer = part_numbers(p);
+    let part = host::object::inspect(file, state, address);
+    *answer = part_numbers(part.len(), address);
 }

@@ -1,18 +1,18 @@
--- `rcm::rcm_object` meets its contract: the numbers of the answer.
-use mathlib.Core.Path.{ap, _∙_}
-use Rattle.rules.specs.Host.{partNumbers}
+-- `rcm::rcm_object` meets its contract: the numbers of the part, which follow from its length.
+use mathlib.Core.Path.{_∙_}
+use Rattle.host.specs.Reading.{object-numbers}
 use borrow.Author.Needs.{needs}
 use Rattle.rcm.proofs.rcm_object.Statement.{statement}
 use Rattle.rcm.proofs.rcm_object.Tie as tie
 
-object-requires : tie.Need-object-requires
-object-requires c κs = search needs
+inspect-requires : tie.Need-inspect-requires
+inspect-requires c κs = search needs
 
 part-numbers-requires : tie.Need-part-numbers-requires
 part-numbers-requires c κs = search needs
 
 returns : tie.Need-returns
-returns c = c .part-numbers .ensures ∙ ap partNumbers (c .before .object .ensures)
+returns c = c .part-numbers .ensures ∙ object-numbers _ _ (c .before .inspect .ensures)
 
 pub rcm-object-spec : {M : Type 1} → statement M
-rcm-object-spec = tie.close (tie.spec object-requires part-numbers-requires returns)
+rcm-object-spec = tie.close (tie.spec inspect-requires part-numbers-requires returns)
