@@ -3,3 +3,4 @@ pub mod Ready
 pub mod Testing
 pub mod Reading
 pub mod Going
+pub mod Calls
