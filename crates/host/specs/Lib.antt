@@ -1,4 +1,4 @@
--- The answers of the code as those of rules' Host, and the laws that its functions go by.
+-- The answers of the code as those of rules' Host, the laws that its functions go by, and what calls in turn give.
 pub mod Ready
 pub mod Testing
 pub mod Reading

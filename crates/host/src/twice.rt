@@ -1,4 +1,5 @@
-// Going on twice: the second call gets the state as the first one left it.
+// Going on twice: the second call gets the state as the first one left it. What this ensures is what demand 3 claims of two calls
+// (`twice-meets`, specs/Calls.antt).
 ghost use Rattle.rules.specs.Host.{goOf};
 ghost use Rattle.host.specs.Calls.{WentTwice};
 use crate::go::Went;
