@@ -1,10 +1,11 @@
 // An opened module: a view over the lent file with its table starts, as a struct. Few thin readers, each over a covered function on the
-// slice and the tables; `parameters_of` serves callers that hold no such struct.
+// slice and the tables; `head_of` serves callers that hold no such struct, as opening does.
 ghost use mathlib.Core.Path.{_≡_};
-ghost use Prim.Native.Nat.{_<_};
+ghost use Rattle.rules.specs.Walk.{whole};
+ghost use Rattle.rules.specs.Records.{headOf};
 ghost use Rattle.rules.specs.Decode.{moduleOf};
-ghost use Rattle.walk.specs.Scan.{callees};
 ghost use Rattle.walk.specs.Tables.{tablesOf};
+use rules::Record;
 use walk::tables::Tables;
 
 // The file lent, and what one pass over its records gives: how many terms, names and functions, and where each function starts.
@@ -21,14 +22,13 @@ pub fn module_of<'a>(file: &'a [u8]) -> Module<'a>
     Module { file, tables }
 }
 
-// The number of parameters of function g, by the tables: the covered function under the struct's reader.
-pub fn parameters_in(file: &[u8], tables: Tables, g: usize) -> usize
-    requires { ⌜ (tables ≡ tablesOf (now file)) × (g < callees) ⌝ }
-    ensures { λ n. ⌜ n ≡ moduleOf (now (file .entry)) .function g .params ⌝ }
+// The record 7 of function g, by the tables: the covered function under the struct's reader.
+fn head_in(file: &[u8], tables: Tables, g: u8) -> Record
+    requires { ⌜ tables ≡ tablesOf (now file) ⌝ }
+    ensures { λ x. ⌜ x ≡ headOf (now (file .entry)) (whole (now (file .entry))) g ⌝ }
 {
     let starts = tables.starts;
-    let x = walk::tables::head_of(file, &starts, g);
-    walk::file::parameters_of(x)
+    walk::tables::head_of(file, &starts, g as usize)
 }
 
 impl<'a> Module<'a> {
@@ -47,19 +47,18 @@ impl<'a> Module<'a> {
         self.tables.walk.functions
     }
 
-    // The number of parameters of function g.
-    pub fn parameters(self, g: usize) -> usize
-        requires { ⌜ (self .tables ≡ tablesOf (now (self .file))) × (g < callees) ⌝ }
-        ensures { λ n. ⌜ n ≡ moduleOf (now (self .entry .file)) .function g .params ⌝ }
+    // The record 7 of function g.
+    pub fn head(self, g: u8) -> Record
+        requires { ⌜ self .tables ≡ tablesOf (now (self .file)) ⌝ }
+        ensures { λ x. ⌜ x ≡ headOf (now (self .entry .file)) (whole (now (self .entry .file))) g ⌝ }
     {
-        parameters_in(self.file, self.tables, g)
+        head_in(self.file, self.tables, g)
     }
 }
 
-// The number of parameters of function g of a file, for callers that have no struct.
-pub fn parameters_of(file: &[u8], g: usize) -> usize
-    requires { ⌜ g < callees ⌝ }
-    ensures { λ n. ⌜ n ≡ moduleOf (now (file .entry)) .function g .params ⌝ }
+// The record 7 of function g of a file, for callers that have no struct.
+pub fn head_of(file: &[u8], g: u8) -> Record
+    ensures { λ x. ⌜ x ≡ headOf (now (file .entry)) (whole (now (file .entry))) g ⌝ }
 {
-    module_of(file).parameters(g)
+    module_of(file).head(g)
 }
