@@ -65,9 +65,7 @@ fn open_accepted(file: &[u8], arguments: &[u8], s: &mut [u8]) -> Opened
     requires { ⌜ IsAccepted (verdictOf (now file)) ⌝ }
     ensures { λ r. ⌜ OpenedBy r (now (s .entry)) (now (s .exit)) (openOf (now (file .entry)) (now (arguments .entry)) (now (s .entry))) ⌝ }
 {
-    let t = walk::tables::tables_of(file);
-    let starts = t.starts;
-    let h = walk::tables::head_of(file, &starts, 0);
+    let h = opened::head_of(file, 0);
     let params = walk::file::parameters_of(h);
     if arguments.len() != 4 * params {
         return Opened::Refused {

@@ -1,19 +1,13 @@
 -- `opening::open_accepted` meets its contract: rules' order of refusals, and then the first state.
-use mathlib.Core.Path.{refl, ap, _∙_}
-use native.Mathlib.Omega.{arith}
-use Rattle.walk.specs.declared.tables.Tables.{Tables}
-use Rattle.walk.specs.Tables.{tables-starts}
+use mathlib.Core.Path.{refl, _∙_}
 use Rattle.opening.specs.First.{first-of}
 use Rattle.opening.specs.Opening.{params-are, locals-are, params-few, locals-few, open-arguments, open-length, open-opened, opened-refused, opened-made}
 use borrow.Author.Needs.{needs}
 use Rattle.opening.proofs.open_accepted.Statement.{statement}
 use Rattle.opening.proofs.open_accepted.Tie as tie
 
-tables-of-requires : tie.Need-tables-of-requires
-tables-of-requires c κs = search needs
-
 head-of-requires : tie.Need-head-of-requires
-head-of-requires c κs = (ap (λ (t : Tables). t .starts) (c .before .before .tables-of .ensures) ∙ tables-starts _, omega arith)
+head-of-requires c κs = search needs
 
 parameters-of-requires : tie.Need-parameters-of-requires
 parameters-of-requires c κs = search needs
@@ -22,28 +16,27 @@ mul-if1 : tie.Need-mul-if1
 mul-if1 c = search needs
 
 returns : tie.Need-returns
-returns c = opened-refused refl (open-arguments _ _ _ (c .before .before .before .before .before .before .before .before .before .pre) (params-are _ (c .before .before .head-of .ensures) (c .before .parameters-of .ensures)) (c .if1 .taken))
+returns c = opened-refused refl (open-arguments _ _ _ (c .before .before .before .before .before .before .pre) (params-are _ (c .before .before .head-of .ensures) (c .before .parameters-of .ensures)) (c .if1 .taken))
 
 returns-2 : tie.Need-returns-2
-returns-2 c = opened-refused refl (open-length _ _ _ (c .before .before .before .before .before .before .before .before .before .before .pre) (params-are _ (c .before .before .before .head-of .ensures) (c .before .before .parameters-of .ensures)) (c .before .if1 .left) (c .if2 .taken))
+returns-2 c = opened-refused refl (open-length _ _ _ (c .before .before .before .before .before .before .before .pre) (params-are _ (c .before .before .before .head-of .ensures) (c .before .before .parameters-of .ensures)) (c .before .if1 .left) (c .if2 .taken))
 
 wide-requires : tie.Need-wide-requires
 wide-requires c κs = search needs
 
 first-state-requires : tie.Need-first-state-requires
-first-state-requires c κs = (c .before .before .if2 .left, params-few _ (c .before .before .before .before .before .before .before .before .before .before .before .before .pre) (params-are _ (c .before .before .before .before .before .head-of .ensures) (c .before .before .before .before .parameters-of .ensures)), c .before .before .before .if1 .left, locals-few _ (c .before .before .before .before .before .before .before .before .before .before .before .before .pre) (locals-are _ (c .before .before .before .before .before .head-of .ensures) (c .wide .ensures .0)))
+first-state-requires c κs = (c .before .before .if2 .left, params-few _ (c .before .before .before .before .before .before .before .before .before .pre) (params-are _ (c .before .before .before .before .before .head-of .ensures) (c .before .before .before .before .parameters-of .ensures)), c .before .before .before .if1 .left, locals-few _ (c .before .before .before .before .before .before .before .before .before .pre) (locals-are _ (c .before .before .before .before .before .head-of .ensures) (c .wide .ensures .0)))
 
 same-length : tie.Need-same-length
 same-length c = search needs
 
 returns-3 : tie.Need-returns-3
-returns-3 c = opened-made (c .before .before .first-state .ensures ∙ first-of _ _ (params-are _ (c .before .before .before .before .before .before .before .before .head-of .ensures) (c .before .before .before .before .before .before .before .parameters-of .ensures)) (locals-are _ (c .before .before .before .before .before .before .before .before .head-of .ensures) (c .before .before .before .wide .ensures .0))) (open-opened _ _ _ (c .before .before .before .before .before .before .before .before .before .before .before .before .before .before .before .pre) (params-are _ (c .before .before .before .before .before .before .before .before .head-of .ensures) (c .before .before .before .before .before .before .before .parameters-of .ensures)) (c .before .before .before .before .before .before .if1 .left) (c .before .before .before .before .before .if2 .left))
+returns-3 c = opened-made (c .before .before .first-state .ensures ∙ first-of _ _ (params-are _ (c .before .before .before .before .before .before .before .before .head-of .ensures) (c .before .before .before .before .before .before .before .parameters-of .ensures)) (locals-are _ (c .before .before .before .before .before .before .before .before .head-of .ensures) (c .before .before .before .wide .ensures .0))) (open-opened _ _ _ (c .before .before .before .before .before .before .before .before .before .before .before .before .pre) (params-are _ (c .before .before .before .before .before .before .before .before .head-of .ensures) (c .before .before .before .before .before .before .before .parameters-of .ensures)) (c .before .before .before .before .before .before .if1 .left) (c .before .before .before .before .before .if2 .left))
 
 pub open-accepted-spec : {M : Type 1} → statement M
 open-accepted-spec =
     tie.close
     (tie.spec
-    tables-of-requires
     head-of-requires
     parameters-of-requires
     mul-if1
