@@ -1,11 +1,9 @@
 -- The program's text from the code's answers: which line each gives, and how the lines stand in the bytes lent for them. Assumes nothing.
 use mathlib.Core.Path.{_≡_, refl, sym, ap, _∙_}
 use mathlib.Core.List.{[], _++_}
-use Prim.Native.Nat.{ℕ, _+_, _≤_}
-use native.Mathlib.Omega.{arith}
-use lib.ListN.{length, take, replicate}
+use Prim.Native.Nat.{ℕ, _≤_}
+use lib.ListN.{length, replicate}
 use Rattle.words.specs.Bytes.{Bytes}
-use Rattle.words.specs.ByteLaws.{part-splice}
 use Rattle.rules.specs.Limits.{stateBytes, outputBytes}
 use Rattle.rules.specs.Verdict.{verdictOf}
 use Rattle.rules.specs.Host as rules
@@ -56,8 +54,6 @@ printed-accepted f form {v} e d =
 pub printed-refused : (f form : Bytes) {v : Verdict} {n p : ℕ} → v ≡ verdictOf f → v ≡ verdicts.Refused n p → printed f form ≡ verdictLine v
 printed-refused f form e d = refused-alone f form (sym e ∙ d) ∙ ap verdictLine (sym d)
 
--- a text that was put at the start is what a reader takes from there
-pub puts-start : {s t text : Bytes} {r : ℕ} → Puts s t 0 r text → r ≤ length s → (take r t ≡ text) × (r ≤ length t)
-puts-start {s} {t} {text} {r} p h =
-    let e : r ≡ length text = p .end ∙ (let z : 0 + length text ≡ length text = omega arith in z) in
-    (ap (λ (n : ℕ). take n t) e ∙ ap (take (length text)) (p .is) ∙ part-splice s 0 text (omega arith), rw (puts-length p) h)
+-- a text that was put at the start ends inside the bytes, which keep their length
+pub puts-inside : {s t text : Bytes} {r : ℕ} → Puts s t 0 r text → r ≤ length s → Puts s t 0 r text × (r ≤ length t)
+puts-inside p h = (p, rw (puts-length p) h)

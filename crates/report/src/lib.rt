@@ -1,9 +1,8 @@
 // Document 01's program as a function: from the bytes of the files `module` and `form` the text that it prints. Reading the files and
 // writing the text is left to the program.
-ghost use mathlib.Core.Path.{_≡_};
 ghost use mathlib.Core.List.{[]};
 ghost use Prim.Native.Nat.{_+_, _≤_};
-ghost use lib.ListN.{length, replicate, take};
+ghost use lib.ListN.{length, replicate};
 ghost use Rattle.rules.specs.Limits.{stateBytes};
 ghost use Rattle.rules.specs.Host.{openOf};
 ghost use Rattle.lines.specs.Lines.{secondLine, printed};
@@ -57,9 +56,9 @@ fn second_line(file: &[u8], form: &[u8], out: &mut [u8], at: usize) -> usize
     }
 }
 
-// The text, from the start of `out` on, and its length.
+// The text, from the start of `out` on, and its length. The bytes behind it are left as they were.
 pub fn report(file: &[u8], form: &[u8], out: &mut [u8; REPORT_BYTES]) -> usize
-    ensures { λ r. ⌜ (take r (now (out .exit)) ≡ printed (now (file .entry)) (now (form .entry))) × (r ≤ length (now (out .exit))) ⌝ }
+    ensures { λ r. ⌜ Puts (now (out .entry)) (now (out .exit)) 0 r (printed (now (file .entry)) (now (form .entry))) × (r ≤ length (now (out .exit))) ⌝ }
 {
     let v = checker::verdict(file);
     let n = verdict_line(out, 0, v);
