@@ -1,5 +1,9 @@
 // The program of document 01: reads the files `module` and `form` of the folder that it is run in and prints the lines that `report` makes
 // of their bytes. A file that cannot be read gets a message on standard error and no line.
+ghost use mathlib.Core.Path.{_≡_};
+ghost use mathlib.Core.Bool.{true};
+ghost use Prim.Native.Nat.{_<_};
+ghost use lib.ListN.{length};
 ghost use Rattle.io.specs.Counts.{Counts};
 use libc::STDOUT_FILENO;
 use report::REPORT_BYTES;
@@ -9,36 +13,38 @@ const FILE_BUFFER: usize = 32769;
 
 const FORM_BUFFER: usize = 4097;
 
-// How many bytes were read, and whether that is all: the whole file, or a full buffer.
+// How many bytes were read, and whether that is all: the whole file, or a full buffer. Of a full buffer it is stated. That a file ends
+// where reading on gives nothing is left free: by its contract C's `read` answers a count within the buffer, and which bytes a file has no
+// contract can say.
 struct Got {
     count: usize,
-    is_whole: bool,
+    whole: bool,
 }
 
 // Of an open file, which it closes. Reading on at its end gives nothing; where the reading before failed it fails.
 fn read_open(fd: i32, name: &[u8], buf: &mut [u8]) -> Got
-    ensures { λ r. ⌜ Counts (r .count) (now (buf .exit)) ⌝ }
+    ensures { λ r. ⌜ Counts (r .count) (now (buf .exit)) × (0 < r .count → r .count ≡ length (now (buf .exit)) → r .whole ≡ true) ⌝ }
 {
     let count = io::read_full(fd, buf);
     let mut next = [0u8; 1];
-    let is_whole = count == buf.len() || libc::read(fd, &mut next) == 0;
-    if !is_whole {
+    let whole = count == buf.len() || libc::read(fd, &mut next) == 0;
+    if !whole {
         os::fail(name);
     }
     libc::close(fd);
-    Got { count, is_whole }
+    Got { count, whole }
 }
 
 // The first bytes of a file, as many as the buffer holds.
 fn read(name: &[u8], buf: &mut [u8]) -> Got
-    ensures { λ r. ⌜ Counts (r .count) (now (buf .exit)) ⌝ }
+    ensures { λ r. ⌜ Counts (r .count) (now (buf .exit)) × (0 < r .count → r .count ≡ length (now (buf .exit)) → r .whole ≡ true) ⌝ }
 {
     let fd = os::open_read(name);
     if fd < 0 {
         os::fail(name);
         return Got {
             count: 0,
-            is_whole: false,
+            whole: false,
         };
     }
     read_open(fd, name, buf)
@@ -52,7 +58,7 @@ fn main() {
     let input = read(b"form", &mut form);
     let n = module.count;
     let k = input.count;
-    if module.is_whole & input.is_whole {
+    if module.whole & input.whole {
         let end = report::report(&file[..n], &form[..k], &mut text);
         if !io::write_all(STDOUT_FILENO, &text[..end]) {
             os::fail(b"standard output");
