@@ -11,9 +11,9 @@ ghost use Rattle.chain.specs.Chain.{Stands};
 ghost use Rattle.chain.specs.Frames.{LinkOk, FrameOk};
 use crate::linked;
 use crate::stands;
+use rules::limits::CALLEES;
 use stack::regions::locals_ok;
 use state::Machine;
-use walk::limits::CALLEES;
 
 // Of n frames: frame k, unless it is the highest, stands at the call that made the one above.
 fn link_ok(f: &[u8], starts: &[usize; CALLEES], functions: usize, s: &[u8], n: u32, k: u32) -> bool

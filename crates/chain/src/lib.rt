@@ -9,10 +9,10 @@ ghost use Rattle.stack.specs.Tells.{Tells};
 ghost use Rattle.stack.specs.Facts.{Known};
 ghost use Rattle.chain.specs.Chain.{Stands, Leads, Linked, callAt};
 use rules::Record;
+use rules::limits::CALL;
+use rules::limits::CALLEES;
 use stack::regions::head;
 use stack::regions::region;
-use walk::limits::CALL;
-use walk::limits::CALLEES;
 
 pub mod frames;
 

@@ -16,7 +16,7 @@ use framing::Outcome;
 use instructions::known::no_runs;
 use instructions::scan::first_instruction;
 use rules::Verdict;
-use walk::limits::CALLEES;
+use rules::limits::CALLEES;
 
 // Refusal 8, of function g where there is such a function, then accepted.
 fn last_rules(

@@ -22,27 +22,27 @@ use operands::seven_loose;
 use rules::Phase;
 use rules::Record;
 use rules::Walk;
-use walk::limits::ARGUMENTS;
-use walk::limits::ARRAY;
-use walk::limits::CALLEES;
-use walk::limits::FIELDS;
-use walk::limits::FILLER;
-use walk::limits::FUNCTION;
-use walk::limits::INTEGER;
-use walk::limits::MOST_ENTRIES;
-use walk::limits::MOST_FUNCTIONS;
-use walk::limits::MOST_INSTRUCTIONS;
-use walk::limits::MOST_REGION_PARAMS;
-use walk::limits::MOST_REGIONS;
-use walk::limits::MOST_REGISTERS;
-use walk::limits::MOST_STRUCTS;
-use walk::limits::MOST_TERMS;
-use walk::limits::NAME;
-use walk::limits::POINTER;
-use walk::limits::REGIONS;
-use walk::limits::REGISTERS;
-use walk::limits::SIZE_LIMIT;
-use walk::limits::STRUCT;
+use rules::limits::ARGUMENTS;
+use rules::limits::ARRAY;
+use rules::limits::CALLEES;
+use rules::limits::FIELDS;
+use rules::limits::FILLER;
+use rules::limits::FUNCTION;
+use rules::limits::INTEGER;
+use rules::limits::MOST_ENTRIES;
+use rules::limits::MOST_FUNCTIONS;
+use rules::limits::MOST_INSTRUCTIONS;
+use rules::limits::MOST_REGION_PARAMS;
+use rules::limits::MOST_REGIONS;
+use rules::limits::MOST_REGISTERS;
+use rules::limits::MOST_STRUCTS;
+use rules::limits::MOST_TERMS;
+use rules::limits::NAME;
+use rules::limits::POINTER;
+use rules::limits::REGIONS;
+use rules::limits::REGISTERS;
+use rules::limits::SIZE_LIMIT;
+use rules::limits::STRUCT;
 use walk::run::counted_only;
 
 // ---- where a table ends
@@ -127,7 +127,8 @@ fn pointer_fits(w: Walk, x: Record) -> bool
 fn array_fits(w: Walk, x: Record) -> bool
     ensures { λ b. ⌜ b ≡ arrayFits w x ⌝ }
 {
-    (((x.a as usize) < w.terms) & ((1 <= x.d) & (x.d <= SIZE_LIMIT))) & ((x.b == 0) & (x.c == 0))
+    (((x.a as usize) < w.terms) & ((1 <= x.d) & (x.d <= SIZE_LIMIT as u32)))
+        & ((x.b == 0) & (x.c == 0))
 }
 
 fn struct_fits(end: Walk, x: Record) -> bool

@@ -10,7 +10,7 @@ ghost use Rattle.functions.specs.Declared.{regionFits, registerFits, reg
 use crate::readers::region_term;
 use crate::readers::register_term;
 use rules::Record;
-use walk::limits::CALLEES;
+use rules::limits::CALLEES;
 
 // The regions that entry j of a list may use, whose first n may use the region parameters only.
 fn scope_in(x: Record, n: usize, j: usize) -> usize

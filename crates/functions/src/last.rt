@@ -5,13 +5,13 @@ ghost use Rattle.rules.specs.Decode.{moduleOf, startOf};
 ghost use Rattle.rules.specs.Verdict.{lastTest};
 ghost use Rattle.functions.specs.Functions.{placeLimit, functionAt, placeIn};
 ghost use Rattle.functions.specs.Last.{ends};
-use walk::limits::LAST_INSTRUCTION;
+use rules::limits::LAST_CONTROL;
 
 // A jump or a return; a kind above 34 was refused with 4.
 pub fn ends(kind: u8) -> bool
     ensures { λ b. ⌜ b ≡ ends kind ⌝ }
 {
-    (kind == 31) | (LAST_INSTRUCTION <= kind)
+    (kind == 31) | (LAST_CONTROL <= kind)
 }
 
 // The record of the last instruction of the function with record 7 at h.

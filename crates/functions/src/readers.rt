@@ -2,7 +2,7 @@
 ghost use mathlib.Core.Path.{_≡_};
 ghost use Prim.Native.Nat.{_<_, _-_};
 ghost use Rattle.functions.specs.Functions.{placeLimit, registerTerm, regionTerm, placeIn};
-use walk::limits::MOST_ENTRIES;
+use rules::limits::MOST_ENTRIES;
 
 // The term of register i.
 pub fn register_term(f: &[u8], h: usize, i: usize) -> usize

@@ -14,7 +14,7 @@ ghost use Rattle.instructions.specs.Known.{Remembered};
 use crate::known::RUNS;
 use judgment::types::OPERANDS;
 use judgment::types::types_of;
-use walk::limits::CALLEES;
+use rules::limits::CALLEES;
 
 // The instruction at record r keeps the rule of its kind.
 pub fn typed(

@@ -19,7 +19,7 @@ use crate::types::term_in;
 use functions::readers::region_term;
 use functions::readers::register_term;
 use rules::Record;
-use walk::limits::CALLEES;
+use rules::limits::CALLEES;
 
 // The regions that a call gives: byte j of d for region j, of p.
 fn given(d: usize, p: usize) -> [u8; 256]

@@ -17,7 +17,7 @@ use crate::types::OPERANDS;
 use crate::types::entry;
 use crate::types::kind_in;
 use crate::types::term_in;
-use walk::limits::CALLEES;
+use rules::limits::CALLEES;
 
 // 29: byte c of the form into i8 a.
 pub fn input(f: &[u8], n: usize, h: usize, types: &[usize; OPERANDS], a: usize, c: usize) -> bool

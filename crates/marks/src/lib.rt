@@ -7,9 +7,9 @@ ghost use Rattle.stack.specs.Tells.{Tells};
 ghost use Rattle.stack.specs.Facts.{Known};
 ghost use Rattle.marks.specs.Ends.{PlacesIn, EndMark, EndsOk, AllEnds};
 use objects::size_of;
+use rules::limits::CALLEES;
 use shape::spare::zero;
 use state::Machine;
-use walk::limits::CALLEES;
 
 // How many places a page has for objects of this size. (Size 0: all of them, that of no object.)
 pub fn places_in(size: usize) -> usize

@@ -8,10 +8,10 @@ ghost use Rattle.rules.specs.State.{frameMap};
 ghost use Rattle.positions.specs.Table.{Table};
 ghost use Rattle.stack.specs.Facts.{Known};
 ghost use Rattle.objects.specs.Homes.{lastOf, lastLocal, frameOf, termAt, regionTree, HomeIs, partAt, IsPart, objectAt};
+use rules::limits::CALLEES;
 use stack::regions::head;
 use stack::regions::region;
 use state::Machine;
-use walk::limits::CALLEES;
 
 // Where a region's type stands: 1 + the frame (0: the region is not live), and the term there.
 pub struct Home {

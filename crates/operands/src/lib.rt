@@ -8,7 +8,7 @@ ghost use Rattle.rules.specs.Records.{slot, four, seven, loose, fourLoose, seve
 ghost use Rattle.operands.specs.Classes.{Digits};
 ghost use Rattle.operands.specs.Limits.{limitsOf, limitIn, belowLimits};
 use rules::Record;
-use walk::limits::FIRST_INSTRUCTION;
+use rules::limits::FIRST_ARITHMETIC;
 
 // The classes of an operand.
 const UNUSED: usize = 0;
@@ -64,10 +64,10 @@ fn wide(x: u16) -> usize
 fn row_of(kind: u8) -> usize
     ensures { λ i. ⌜ i ≡ kind - firstArithmetic ⌝ }
 {
-    if kind <= FIRST_INSTRUCTION {
+    if kind <= FIRST_ARITHMETIC {
         0
     } else {
-        (kind - FIRST_INSTRUCTION) as usize
+        (kind - FIRST_ARITHMETIC) as usize
     }
 }
 

@@ -13,9 +13,9 @@ ghost use Rattle.terms.specs.Extents.{Terms, Counted, Small};
 ghost use Rattle.positions.specs.Table.{coreNo, coreFrom, Fits, pack, entryAt, coreAt, Bare, Ends, CoreIs, Few, Ranged, Known, Table, exactOf, termLayout, structLayout, ownByte};
 ghost use Rattle.positions.specs.Positions.{Keeps, Agree, argByte, Found};
 ghost use Rattle.positions.specs.Distances.{Lower, ElementIs};
+use rules::limits::MOST_TERMS;
 use terms::Extent;
 use terms::Head;
-use walk::limits::MOST_TERMS;
 
 // A primitive: its distance in bytes, and the place of its term with the regions put for its variables.
 pub struct Primitive {

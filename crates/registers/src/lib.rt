@@ -13,6 +13,8 @@ ghost use Rattle.registers.specs.Value.{typingOf};
 ghost use Rattle.registers.specs.Registers.{ValueOk, RegisterOk, RegistersOk, AllRegisters, registerTerm};
 use memo::stands_known;
 use objects::home_of;
+use rules::limits::CALLEES;
+use rules::limits::MOST_ENTRIES;
 use stack::regions::head;
 use state::Machine;
 use state::RegionVariable;
@@ -21,8 +23,6 @@ use terms::form;
 use terms::inner;
 use terms::number;
 use terms::target_region;
-use walk::limits::CALLEES;
-use walk::limits::MOST_ENTRIES;
 
 // ---- a frame's map
 

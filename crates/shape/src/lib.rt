@@ -9,7 +9,7 @@ pub mod pages;
 pub mod spare;
 
 use chain::frames::frames_ok;
-use walk::limits::CALLEES;
+use rules::limits::CALLEES;
 
 // All of them.
 pub fn shape_ok(f: &[u8], starts: &[usize; CALLEES], functions: usize, s: &[u8]) -> bool

@@ -5,9 +5,9 @@ ghost use Rattle.stack.specs.Tells.{Tells};
 ghost use Rattle.stack.specs.Facts.{Known};
 ghost use Rattle.shape.specs.Pages.{PageOk, PagesOk};
 use crate::spare::zero;
+use rules::limits::CALLEES;
 use stack::regions::not_live;
 use state::Machine;
-use walk::limits::CALLEES;
 
 // Of n frames. (A page without used marks has 32 zero bytes of them.)
 fn page_ok(f: &[u8], starts: &[usize; CALLEES], functions: usize, s: &[u8], n: u32, p: u32) -> bool

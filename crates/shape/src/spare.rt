@@ -6,13 +6,13 @@ ghost use Rattle.stack.specs.Tells.{Tells};
 ghost use Rattle.stack.specs.Facts.{Known};
 ghost use Rattle.shape.specs.Zeros.{ZeroFrom};
 ghost use Rattle.shape.specs.Spare.{UsedSpare, FrameSpare, SpareShape};
+use rules::limits::CALLEES;
 use stack::regions::head;
 use state::Machine;
 use state::places::frame_place;
 use state::places::function_place;
 use state::places::map_place;
 use state::places::register_place;
-use walk::limits::CALLEES;
 
 // Where the spare bytes of the header, of a frame and behind the frames start.
 const HEADER_END: usize = 8;

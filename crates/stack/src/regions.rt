@@ -5,9 +5,9 @@ ghost use Rattle.rules.specs.State.{frameMap};
 ghost use Rattle.stack.specs.Tells.{Tells};
 ghost use Rattle.stack.specs.Facts.{Known, headAt, Elsewhere, NotLocal, NotLive, LocalOk, LocalsOk};
 use rules::Record;
+use rules::limits::CALLEES;
 use state::Machine;
 use state::RegionVariable;
-use walk::limits::CALLEES;
 
 // The record 7 of frame k's function.
 pub fn head(f: &[u8], starts: &[usize; CALLEES], functions: usize, s: &[u8], k: u32) -> Record

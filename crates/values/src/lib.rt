@@ -14,8 +14,8 @@ pub mod pages;
 
 use marks::ends_ok;
 use registers::registers_ok;
+use rules::limits::CALLEES;
 use shape::shape_ok;
-use walk::limits::CALLEES;
 
 // "the state test": the cheap parts first, and none after one that fails.
 pub fn passes(

@@ -16,13 +16,13 @@ use memo::forget;
 use memo::stands_known;
 use objects::home_of;
 use registers::map_of;
+use rules::limits::CALLEES;
 use state::Machine;
 use state::total::memory_byte;
 use terms::Live;
 use terms::inner;
 use terms::live_of;
 use terms::target_region;
-use walk::limits::CALLEES;
 
 // The four bytes from address x on, one by one.
 fn bytes(s: &[u8], x: u32) -> u32

@@ -23,9 +23,9 @@ use marks::places_in;
 use objects::Home;
 use objects::home_of;
 use registers::map_of;
+use rules::limits::CALLEES;
 use state::Machine;
 use terms::form;
-use walk::limits::CALLEES;
 
 // What the objects of a page are: the place of their term, the regions put in, their size and how many primitives each has.
 pub struct Objects {

@@ -3,8 +3,8 @@
 ghost use mathlib.Core.Path.{_≡_};
 ghost use Prim.Native.Nat.{_<_, _^_};
 ghost use Rattle.rules.specs.Decode.{registersAt, codeAt, after};
-use crate::limits::CALL;
-use crate::limits::MOST_ENTRIES;
+use rules::limits::CALL;
+use rules::limits::MOST_ENTRIES;
 
 // The first record 9 of the function with record 7 at h.
 pub fn registers_at(f: &[u8], h: usize) -> usize

@@ -3,9 +3,9 @@ ghost use mathlib.Core.Path.{_≡_};
 ghost use Prim.Native.Nat.{_<_};
 ghost use Rattle.rules.specs.Walk.{scan};
 ghost use Rattle.walk.specs.Run.{inCode, countedOnly, Run};
-use crate::limits::CALL;
 use rules::Phase;
 use rules::Walk;
+use rules::limits::CALL;
 
 // The walk is among a function's instructions.
 pub fn in_code(p: Phase) -> bool

@@ -7,22 +7,22 @@ ghost use Rattle.rules.specs.declared.Phase.the-variants.{Terms, Fields, Region
 ghost use Rattle.walk.specs.Scan.{Room, inFiller};
 use crate::file::instructions_of;
 use crate::file::regions_of;
-use crate::limits::ARGUMENTS;
-use crate::limits::CALL;
-use crate::limits::FIELDS;
-use crate::limits::FILLER;
-use crate::limits::FIRST_INSTRUCTION;
-use crate::limits::FUNCTION;
-use crate::limits::INTEGER;
-use crate::limits::LAST_INSTRUCTION;
-use crate::limits::MOST_ENTRIES;
-use crate::limits::NAME;
-use crate::limits::REGIONS;
-use crate::limits::REGISTERS;
-use crate::limits::STRUCT;
 use rules::Phase;
 use rules::Record;
 use rules::Walk;
+use rules::limits::ARGUMENTS;
+use rules::limits::CALL;
+use rules::limits::FIELDS;
+use rules::limits::FILLER;
+use rules::limits::FIRST_ARITHMETIC;
+use rules::limits::FUNCTION;
+use rules::limits::INTEGER;
+use rules::limits::LAST_CONTROL;
+use rules::limits::MOST_ENTRIES;
+use rules::limits::NAME;
+use rules::limits::REGIONS;
+use rules::limits::REGISTERS;
+use rules::limits::STRUCT;
 
 pub fn is_term(kind: u8) -> bool
     ensures { λ b. ⌜ b ≡ isTerm kind ⌝ }
@@ -33,7 +33,7 @@ pub fn is_term(kind: u8) -> bool
 pub fn is_instruction(kind: u8) -> bool
     ensures { λ b. ⌜ b ≡ isInstruction kind ⌝ }
 {
-    (FIRST_INSTRUCTION <= kind) & (kind <= LAST_INSTRUCTION)
+    (FIRST_ARITHMETIC <= kind) & (kind <= LAST_CONTROL)
 }
 
 // The same counts, waiting for p, of which n are to come.

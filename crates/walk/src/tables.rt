@@ -6,9 +6,9 @@ ghost use Rattle.rules.specs.Decode.{startOf};
 ghost use Rattle.rules.specs.Records.{headOf};
 ghost use Rattle.walk.specs.Scan.{callees};
 ghost use Rattle.walk.specs.Tables.{tablesOf, startsOf, noTables, instructionsBelow};
-use crate::limits::CALLEES;
 use rules::Record;
 use rules::Walk;
+use rules::limits::CALLEES;
 
 // The walk of a whole file, and where function g starts, for each g below 256; 0 where the walk reached no such function.
 pub struct Tables {
