@@ -13,7 +13,7 @@ use borrow.Author.Tests.{ne-eqb}
 use Rattle.words.specs.Bytes.{Bytes, AllBytes, listOf}
 use Rattle.words.specs.ByteLaws.{getD-listOf}
 use Rattle.words.specs.Choose.{cond-split, eq-or-ne}
-use Rattle.rules.specs.File.{recordOf, recordStart, byteOfD, entryOf, instructionsOf, parametersOf, kindCall, Group, arithmetic, memory, control, groupOf}
+use Rattle.rules.specs.File.{recordOf, recordStart, byteOfD, entryOf, instructionsOf, parametersOf, kindCall, groupOf}
 use Rattle.rules.specs.Types.{Variable, region, arg, nowhere}
 use Rattle.rules.specs.Module.{Instruction, call}
 use Rattle.rules.specs.Walk.{whole}
@@ -23,6 +23,8 @@ use Rattle.rules.specs.State.{view, frameFunction, frameInstruction, frameMap}
 use Rattle.rules.specs.Step.{IsCall, notCall}
 use Rattle.rules.specs.StateTest.{Chained}
 use Rattle.rules.specs.declared.Record.{Record}
+use Rattle.rules.specs.declared.Group.{Group}
+use Rattle.rules.specs.declared.Group.the-variants.{Arithmetic, Memory, Control}
 use Rattle.state.specs.Reads.{instruction-lt}
 use Rattle.typing.specs.Walk.{skip, skip-suc}
 use Rattle.walk.specs.Code.{registers-far, skip-far, instruction-skip}
@@ -64,9 +66,9 @@ module _ (x : Record) (c : Instruction) (not : x .kind ≢ kindCall) where
 
   by-group : (g : Group) → ¬ IsCall (byGroup g x c)
   unfolding byGroup arithmeticOf memoryOf controlOf
-  by-group arithmetic = pick 16 _ _ (notCall _ 16 refl (λ e. omega arith)) (pick 17 _ _ (notCall _ 17 refl (λ e. omega arith)) (pick 18 _ _ (notCall _ 18 refl (λ e. omega arith)) (pick 19 _ _ (notCall _ 19 refl (λ e. omega arith)) (pick 20 _ _ (notCall _ 20 refl (λ e. omega arith)) (pick 21 _ _ (notCall _ 21 refl (λ e. omega arith)) (notCall _ 22 refl (λ e. omega arith)))))))
-  by-group memory = pick 23 _ _ (notCall _ 23 refl (λ e. omega arith)) (pick 24 _ _ (notCall _ 24 refl (λ e. omega arith)) (pick 25 _ _ (notCall _ 25 refl (λ e. omega arith)) (pick 26 _ _ (notCall _ 26 refl (λ e. omega arith)) (pick 27 _ _ (notCall _ 27 refl (λ e. omega arith)) (notCall _ 28 refl (λ e. omega arith))))))
-  by-group control = rw (ne-eqb (x .kind) kindCall not) (pick 29 _ _ (notCall _ 29 refl (λ e. omega arith)) (pick 30 _ _ (notCall _ 30 refl (λ e. omega arith)) (pick 31 _ _ (notCall _ 31 refl (λ e. omega arith)) (pick 32 _ _ (notCall _ 32 refl (λ e. omega arith)) (notCall _ 34 refl (λ e. omega arith))))))
+  by-group Arithmetic = pick 16 _ _ (notCall _ 16 refl (λ e. omega arith)) (pick 17 _ _ (notCall _ 17 refl (λ e. omega arith)) (pick 18 _ _ (notCall _ 18 refl (λ e. omega arith)) (pick 19 _ _ (notCall _ 19 refl (λ e. omega arith)) (pick 20 _ _ (notCall _ 20 refl (λ e. omega arith)) (pick 21 _ _ (notCall _ 21 refl (λ e. omega arith)) (notCall _ 22 refl (λ e. omega arith)))))))
+  by-group Memory = pick 23 _ _ (notCall _ 23 refl (λ e. omega arith)) (pick 24 _ _ (notCall _ 24 refl (λ e. omega arith)) (pick 25 _ _ (notCall _ 25 refl (λ e. omega arith)) (pick 26 _ _ (notCall _ 26 refl (λ e. omega arith)) (pick 27 _ _ (notCall _ 27 refl (λ e. omega arith)) (notCall _ 28 refl (λ e. omega arith))))))
+  by-group Control = rw (ne-eqb (x .kind) kindCall not) (pick 29 _ _ (notCall _ 29 refl (λ e. omega arith)) (pick 30 _ _ (notCall _ 30 refl (λ e. omega arith)) (pick 31 _ _ (notCall _ 31 refl (λ e. omega arith)) (pick 32 _ _ (notCall _ 32 refl (λ e. omega arith)) (notCall _ 34 refl (λ e. omega arith))))))
 
   not-call : ¬ IsCall (instructionOf x c)
   unfolding instructionOf

@@ -5,13 +5,14 @@ ghost use Rattle.rules.specs.Decode.{moduleOf, startOf};
 ghost use Rattle.rules.specs.Verdict.{lastTest};
 ghost use Rattle.functions.specs.Functions.{placeLimit, functionAt, placeIn};
 ghost use Rattle.functions.specs.Last.{ends};
-use rules::limits::LAST_CONTROL;
+use rules::limits::JUMP;
+use rules::limits::RETURN;
 
-// A jump or a return; a kind above 34 was refused with 4.
+// A jump or a return.
 pub fn ends(kind: u8) -> bool
     ensures { λ b. ⌜ b ≡ ends kind ⌝ }
 {
-    (kind == 31) | (LAST_CONTROL <= kind)
+    (kind == JUMP) | (kind == RETURN)
 }
 
 // The record of the last instruction of the function with record 7 at h.

@@ -1,4 +1,4 @@
-// One match on the kind picks the typing rule; and the scan of a function's instructions.
+// The group of the kind picks the typing rule; and the scan of a function's instructions.
 ghost use mathlib.Core.Path.{_≡_};
 ghost use Prim.Native.Nat.{_-_, _<_, _≤_, _^_};
 ghost use Rattle.words.specs.First.{first};
@@ -14,6 +14,7 @@ ghost use Rattle.instructions.specs.Known.{Remembered};
 use crate::known::RUNS;
 use judgment::types::OPERANDS;
 use judgment::types::types_of;
+use rules::Group;
 use rules::limits::CALLEES;
 
 // The instruction at record r keeps the rule of its kind.
@@ -33,11 +34,10 @@ pub fn typed(
     ensures { λ s. ⌜ (s ≡ does (decTyped (moduleOf (now (f .entry))) (functionAt (now (f .entry)) h) (instructionIn (now (f .entry)) r))) × (Remembered (now (f .entry)) (now (known .exit))) ⌝ }
 {
     let x = walk::file::record_at(f, r);
-    let kind = x.kind;
-    match kind {
-        0..=22 => judgment::arithmetic::arithmetic(f, n, h, types, x),
-        23..=28 => crate::memory::memory(f, n, k, tab, known, h, types, x),
-        _ => judgment::control::control(f, n, k, c, starts, h, types, r),
+    match walk::kinds::group_of(x.kind) {
+        Group::Arithmetic => judgment::arithmetic::arithmetic(f, n, h, types, x),
+        Group::Memory => crate::memory::memory(f, n, k, tab, known, h, types, x),
+        Group::Control => judgment::control::control(f, n, k, c, starts, h, types, r),
     }
 }
 

@@ -2,13 +2,15 @@
 -- past the end of the file there are zeros. Assumes nothing.
 use mathlib.Core.Bool.{Bool, cond, _&&_}
 use Prim.Native.Nat.{ℕ, zero, suc, _+_, _*_, _/_, _%_}
-use lib.Dec.{ltb, leb, eqb}
+use lib.Dec.{leb, eqb}
 use lib.ListN.{length}
 use Rattle.words.specs.Bytes.{Bytes, byteAt, number}
 use Rattle.words.specs.First.{sumBelow}
 use Rattle.rules.specs.Limits.{blockBytes, mostBlocks, blockRecords, recordBytes, checkAt}
 use Rattle.rules.specs.Stages.{Stage}
 use Rattle.rules.specs.declared.Record.{Record}
+use Rattle.rules.specs.declared.Group.{Group}
+use Rattle.rules.specs.declared.Group.the-variants.{Arithmetic, Memory, Control}
 
 -- ---- blocks
 
@@ -148,23 +150,22 @@ firstArithmetic = 16
 abbrev pub firstMemory : ℕ
 firstMemory = 23
 
+abbrev pub lastMemory : ℕ
+lastMemory = 28
+
 abbrev pub firstControl : ℕ
 firstControl = 29
 
 abbrev pub lastControl : ℕ
 lastControl = 34
 
-pub data Group : Type 0 where
-  arithmetic : Group
-  memory : Group
-  control : Group
-
--- the group of an instruction's kind
-unfoldable pub groupOf : ℕ → Group
-groupOf k = cond (ltb k firstMemory) arithmetic (cond (ltb k firstControl) memory control)
-
 abbrev pub within : ℕ → ℕ → ℕ → Bool
 within k lo hi = leb lo k && leb k hi
+
+-- the group of an instruction's kind. (What is no instruction is refused with 4 before its group is asked; here it counts as
+-- arithmetic.)
+unfoldable pub groupOf : ℕ → Group
+groupOf k = cond (within k firstMemory lastMemory) Memory (cond (within k firstControl lastControl) Control Arithmetic)
 
 abbrev pub isTerm : ℕ → Bool
 isTerm k = within k kindInteger kindStruct

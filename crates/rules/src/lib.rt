@@ -24,6 +24,13 @@ pub struct Record {
     pub d: u32,
 }
 
+// The instructions by their kinds: "the ranges above" of document 01, by which typing rule and step are chosen.
+pub enum Group {
+    Arithmetic,
+    Memory,
+    Control,
+}
+
 // What the next record of the file is to be.
 pub enum Phase {
     // a term, or the first name or function

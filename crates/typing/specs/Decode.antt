@@ -2,14 +2,17 @@
 -- step are those of the record's kind. Assumes nothing.
 use mathlib.Core.Path.{_≡_, refl, sym, _∙_}
 use mathlib.Core.Bool.{Bool, true, false, cond}
+use mathlib.Core.Logic.{⊎-elim}
 use Prim.Native.Nat.{ℕ, _<_, _≤_}
 use native.Mathlib.Omega.{arith}
-use lib.Dec.{ltb, leb, eqb}
-use borrow.Author.Tests.{eqb-true, eqb-false, ltb-true, ltb-false, leb-true}
-use Rattle.rules.specs.File.{isInstruction, firstArithmetic, firstMemory, firstControl, lastControl, kindCall, arithmetic, memory, control, groupOf}
+use lib.Dec.{leb, eqb}
+use borrow.Author.Tests.{eqb-true, eqb-false, leb-true}
+use Rattle.rules.specs.File.{isInstruction, firstArithmetic, firstMemory, lastMemory, firstControl, lastControl, kindCall}
 use Rattle.rules.specs.Module.{Instruction, kindOf}
 use Rattle.rules.specs.Decode.{callOf, arithmeticOf, memoryOf, controlOf, byGroup, instructionOf}
 use Rattle.rules.specs.declared.Record.{Record}
+use Rattle.rules.specs.declared.Group.{Group}
+use Rattle.typing.specs.Groups.{group-split}
 use Rattle.typing.specs.Tests.{left, right}
 
 module _ (x : Record) where
@@ -30,7 +33,7 @@ module _ (x : Record) where
       one-of 16 _ _ refl (λ a. one-of 17 _ _ refl (λ b. one-of 18 _ _ refl (λ c. one-of 19 _ _ refl (λ d. one-of 20 _ _ refl (λ e. one-of 21 _ _ refl (λ f.
       omega (arith, not-kind a, not-kind b, not-kind c, not-kind d, not-kind e, not-kind f)))))))
 
-  pub memory-kind : firstMemory ≤ x .kind → x .kind < firstControl → kindOf (memoryOf x) ≡ x .kind
+  pub memory-kind : firstMemory ≤ x .kind → x .kind ≤ lastMemory → kindOf (memoryOf x) ≡ x .kind
   unfolding memoryOf
   memory-kind lo hi =
       one-of 23 _ _ refl (λ a. one-of 24 _ _ refl (λ b. one-of 25 _ _ refl (λ c. one-of 26 _ _ refl (λ d. one-of 27 _ _ refl (λ e.
@@ -44,17 +47,15 @@ module _ (x : Record) where
 
   -- the instruction of a record has the record's kind
   pub decoded-kind : (y : Record) (p q : ℕ) → isInstruction (x .kind) ≡ true → kindOf (instructionOf x (callOf x y p q)) ≡ x .kind
-  unfolding instructionOf byGroup groupOf callOf
-  decoded-kind y p q h = go (ltb (x .kind) firstMemory) (ltb (x .kind) firstControl) refl refl
+  unfolding instructionOf
+  decoded-kind y p q h =
+      group-split (λ (g : Group). kindOf (byGroup g x (callOf x y p q)) ≡ x .kind) (x .kind)
+      (⊎-elim (λ l. unfold byGroup in arithmetic-kind lo l) (λ l. absurd (omega (arith, hi))))
+      (λ l u. unfold byGroup in memory-kind l u)
+      (λ l u. unfold byGroup in control-kind (callOf x y p q) (unfold callOf in refl) l u)
     where
       lo : firstArithmetic ≤ x .kind
       lo = leb-true firstArithmetic (x .kind) (left (leb firstArithmetic (x .kind)) (leb (x .kind) lastControl) h)
 
       hi : x .kind ≤ lastControl
       hi = leb-true (x .kind) lastControl (right (leb firstArithmetic (x .kind)) (leb (x .kind) lastControl) h)
-
-      go : (a b : Bool) → ltb (x .kind) firstMemory ≡ a → ltb (x .kind) firstControl ≡ b
-          → kindOf (byGroup (cond a arithmetic (cond b memory control)) x (callOf x y p q)) ≡ x .kind
-      go true b e d = unfold byGroup in arithmetic-kind lo (ltb-true (x .kind) firstMemory e)
-      go false true e d = unfold byGroup in memory-kind (ltb-false (x .kind) firstMemory e) (ltb-true (x .kind) firstControl d)
-      go false false e d = unfold byGroup in control-kind (callOf x y p q) (unfold callOf in refl) (ltb-false (x .kind) firstControl d) hi
