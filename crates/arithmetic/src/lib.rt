@@ -6,6 +6,8 @@ ghost use lib.Dec.{ltb};
 ghost use Rattle.words.specs.Widths.{IsWidth};
 ghost use Rattle.rules.specs.Arithmetic.{value, cut, flag, valueIf, leftBy, rightBy, magnitude, nearestBy, negative, biased, operationOf, operated, signExtended};
 ghost use Rattle.arithmetic.specs.Meaning.{computedOf, widthIn, maskIn, Sized};
+use rules::limits::NO_QUOTIENT;
+use rules::limits::SHIFT_PAST;
 
 // 256 to the width of an i32, and the lowest i32 that is negative.
 const WORD: u64 = 4294967296;
@@ -88,7 +90,7 @@ fn shift_left(v: u64, x: u32, y: u32) -> Number
     if n < bits_of(width_in(v)) {
         Number::Is(cut_by(wide(x) << n, mask_in(v)))
     } else {
-        Number::Stop(37)
+        Number::Stop(SHIFT_PAST)
     }
 }
 
@@ -107,7 +109,7 @@ fn shift_right(v: u64, x: u32, y: u32) -> Number
     if wide(y) < bits_of(width_in(v)) {
         Number::Is(logical_right(x, y))
     } else {
-        Number::Stop(37)
+        Number::Stop(SHIFT_PAST)
     }
 }
 
@@ -128,7 +130,7 @@ fn positive(q: u64) -> Number
     if q < (NEGATIVE as u64) {
         Number::Is(q as u32)
     } else {
-        Number::Stop(36)
+        Number::Stop(NO_QUOTIENT)
     }
 }
 
@@ -152,7 +154,7 @@ fn nearest(x: u32, y: u32) -> Number
     ensures { λ r. ⌜ computedOf r ≡ nearestBy (ltb 0 y) x y ⌝ }
 {
     if y == 0 {
-        return Number::Stop(36);
+        return Number::Stop(NO_QUOTIENT);
     }
     let p = magnitude_of(x);
     let q = magnitude_of(y);
@@ -178,7 +180,7 @@ fn quotient(x: u32, y: u32) -> Number
     if 0 < y {
         Number::Is(x / y)
     } else {
-        Number::Stop(36)
+        Number::Stop(NO_QUOTIENT)
     }
 }
 
@@ -188,7 +190,7 @@ fn remainder(x: u32, y: u32) -> Number
     if 0 < y {
         Number::Is(x % y)
     } else {
-        Number::Stop(36)
+        Number::Stop(NO_QUOTIENT)
     }
 }
 

@@ -16,6 +16,10 @@ use framing::Outcome;
 use instructions::known::no_runs;
 use instructions::scan::first_instruction;
 use rules::Verdict;
+use rules::limits::BAD_END;
+use rules::limits::BAD_FUNCTION;
+use rules::limits::BAD_INSTRUCTION;
+use rules::limits::BAD_TYPE;
 use rules::limits::CALLEES;
 
 // Refusal 8, of function g where there is such a function, then accepted.
@@ -33,7 +37,7 @@ fn last_rules(
     if g < c {
         let h = walk::tables::start_of(f, starts, g);
         Verdict::Refused {
-            number: 8,
+            number: BAD_END,
             place: functions::last::last_place(f, h),
         }
     } else {
@@ -76,7 +80,10 @@ fn typed_functions(
         let place = found.place;
         if index < count {
             return Scanned {
-                outcome: Outcome::Refused { number: 7, place },
+                outcome: Outcome::Refused {
+                    number: BAD_INSTRUCTION,
+                    place,
+                },
                 ends,
             };
         }
@@ -114,7 +121,7 @@ fn function_rules(f: &[u8], n: usize, k: usize, c: usize, starts: &[usize; CALLE
     let g = functions::declared::first_function(f, n, k, c, starts);
     if g < c {
         Verdict::Refused {
-            number: 6,
+            number: BAD_FUNCTION,
             place: walk::tables::start_of(f, starts, g),
         }
     } else {
@@ -130,7 +137,7 @@ fn struct_rules(f: &[u8], n: usize, k: usize, c: usize, starts: &[usize; CALLEES
     let s = sizes::first_struct(f, n, k);
     if s < k {
         Verdict::Refused {
-            number: 5,
+            number: BAD_TYPE,
             place: n + 2 * s,
         }
     } else {
@@ -146,7 +153,7 @@ fn term_rules(f: &[u8], n: usize, k: usize, c: usize, starts: &[usize; CALLEES])
     let t = sizes::first_term(f, n, k);
     if t < n {
         Verdict::Refused {
-            number: 5,
+            number: BAD_TYPE,
             place: t,
         }
     } else {

@@ -10,6 +10,7 @@ use borrow.Author.Tests.{lt-ltb, le-ltb, ltb-false}
 use Rattle.words.specs.Bytes.{Bytes}
 use Rattle.words.specs.First.{first}
 use Rattle.words.specs.FirstLaws.{first-is, first-all, first-none}
+use Rattle.rules.specs.Limits.{badFile, badBlock}
 use Rattle.rules.specs.Stages.{Stage, failure, refusal, verdict}
 use Rattle.rules.specs.File.{blocks, lengthRight, blockTest, lengthStage, blockStage}
 use Rattle.rules.specs.Verdict.{recordRules, verdictOf}
@@ -92,12 +93,12 @@ all-passed (s ∷ ss) p =
 -- ---- the cases of the code
 
 module _ (f : Bytes) where
-  pub wrong-length : lengthRight f ≡ false → Refused 1 0 ≡ framingOf f
+  pub wrong-length : lengthRight f ≡ false → Refused badFile 0 ≡ framingOf f
   unfolding framingOf
   wrong-length e = sym (refuses (lengthStage f) (blockStage f ∷ []) (one-fails _ e) (lit< tt))
 
   module _ (e : lengthRight f ≡ true) {p : ℕ} (q : p ≡ first (2 * blocks f) (blockTest f)) where
-    pub wrong-block : p < 2 * blocks f → Refused (2 + p % 2) (p / 2) ≡ framingOf f
+    pub wrong-block : p < 2 * blocks f → Refused (badBlock + p % 2) (p / 2) ≡ framingOf f
     unfolding framingOf
     wrong-block h = sym (passes (lengthStage f) (blockStage f ∷ []) (one-passes _ e) (lit≤ tt) ∙ refuses (blockStage f) [] q h)
 

@@ -6,6 +6,7 @@ use native.Mathlib.Omega.{arith}
 use Rattle.words.specs.Bytes.{Bytes, listFrom}
 use Rattle.words.specs.First.{first}
 use Rattle.words.specs.Decide.{does}
+use Rattle.rules.specs.Limits.{badInstruction}
 use Rattle.rules.specs.Module.{Function}
 use Rattle.rules.specs.Stages.{failure}
 use Rattle.rules.specs.Decision.{decTyped}
@@ -38,12 +39,12 @@ module _ (f : Bytes) (g n h i place : ℕ) (at : h ≡ startOf f g) (is : i ≡ 
   unfolding typedFrom listFrom
   typed-passes l = passes (instructionStage f (moduleOf f) g) (listFrom (instructionStage f (moduleOf f)) (suc g) n) (is ∙ stage-is) (omega (arith, count-is))
 
-  pub typed-refuses : i < functionAt f h .codeLength → place ≡ placeIn f h i → typedFrom f g (suc n) ≡ Refused 7 place
+  pub typed-refuses : i < functionAt f h .codeLength → place ≡ placeIn f h i → typedFrom f g (suc n) ≡ Refused badInstruction place
   unfolding typedFrom listFrom
   typed-refuses l e = refuses (instructionStage f (moduleOf f) g) (listFrom (instructionStage f (moduleOf f)) (suc g) n) (is ∙ stage-is) (omega (arith, count-is)) ∙ refusal-is
     where
-      refusal-is : Refused (instructionStage f (moduleOf f) g .number i) (instructionStage f (moduleOf f) g .place i) ≡ Refused 7 place
-      refusal-is = unfold instructionStage in ap (Refused 7) (place-in f g i ∙ ap (λ (h : ℕ). placeIn f h i) (sym at) ∙ sym e)
+      refusal-is : Refused (instructionStage f (moduleOf f) g .number i) (instructionStage f (moduleOf f) g .place i) ≡ Refused badInstruction place
+      refusal-is = unfold instructionStage in ap (Refused badInstruction) (place-in f g i ∙ ap (λ (h : ℕ). placeIn f h i) (sym at) ∙ sym e)
 
 pub typed-ended : (f : Bytes) (g : ℕ) → typedFrom f g 0 ≡ Passed
 unfolding typedFrom outcome listFrom

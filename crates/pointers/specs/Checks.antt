@@ -6,7 +6,7 @@ use Prim.Native.Nat.{ℕ, _/_, _<_}
 use Rattle.words.specs.Bytes.{Bytes}
 use Rattle.words.specs.Choose.{cond-eq, cond-ne}
 use Rattle.words.specs.Decide.{does}
-use Rattle.rules.specs.Limits.{pageBytes, mostRegions}
+use Rattle.rules.specs.Limits.{pageBytes, mostRegions, checkFails}
 use Rattle.rules.specs.Types.{live, Tree, sub}
 use Rattle.rules.specs.Module.{Module}
 use Rattle.rules.specs.Decode.{moduleOf}
@@ -42,19 +42,19 @@ module _ (m : Module) (s : Bytes) (k w x : ℕ) (q : kind w ≡ 22) {a c : ℕ} 
   number-is : a ≡ frameRegister s k (registerB w)
   number-is = at ∙ ap (frameRegister s k) ec
 
-  pub check-zero : a ≡ 0 → stop 32 ≡ plainArithmetic m (view s) k (kind w) w x
+  pub check-zero : a ≡ 0 → stop checkFails ≡ plainArithmetic m (view s) k (kind w) w x
   unfolding plainCheck view
   check-zero e = sym (check-is m s k w x q ∙ cond-eq _ _ (sym number-is ∙ e))
 
-  chosen : (b : Bool) → a ≢ 0 → b ≡ plainStands m (view s) k w x a → cond b (assign (registerA w) a) (stop 32) ≡ plainArithmetic m (view s) k (kind w) w x
+  chosen : (b : Bool) → a ≢ 0 → b ≡ plainStands m (view s) k w x a → cond b (assign (registerA w) a) (stop checkFails) ≡ plainArithmetic m (view s) k (kind w) w x
   unfolding plainCheck view
   chosen b n e =
-      ap (λ (y : Bool). cond y (assign (registerA w) a) (stop 32)) e
-      ∙ ap (λ (y : ℕ). cond (plainStands m (view s) k w x y) (assign (registerA w) y) (stop 32)) number-is
+      ap (λ (y : Bool). cond y (assign (registerA w) a) (stop checkFails)) e
+      ∙ ap (λ (y : ℕ). cond (plainStands m (view s) k w x y) (assign (registerA w) y) (stop checkFails)) number-is
       ∙ sym (check-is m s k w x q ∙ cond-ne _ _ (λ z. n (number-is ∙ z)))
 
   pub check-stands : {b : Bool} → a ≢ 0 → b ≡ plainStands m (view s) k w x a → b ≡ true → assign (registerA w) a ≡ plainArithmetic m (view s) k (kind w) w x
-  check-stands {b} n e t = sym (ap (λ (y : Bool). cond y (assign (registerA w) a) (stop 32)) t) ∙ chosen b n e
+  check-stands {b} n e t = sym (ap (λ (y : Bool). cond y (assign (registerA w) a) (stop checkFails)) t) ∙ chosen b n e
 
-  pub check-none : {b : Bool} → a ≢ 0 → b ≡ plainStands m (view s) k w x a → b ≡ false → stop 32 ≡ plainArithmetic m (view s) k (kind w) w x
-  check-none {b} n e t = sym (ap (λ (y : Bool). cond y (assign (registerA w) a) (stop 32)) t) ∙ chosen b n e
+  pub check-none : {b : Bool} → a ≢ 0 → b ≡ plainStands m (view s) k w x a → b ≡ false → stop checkFails ≡ plainArithmetic m (view s) k (kind w) w x
+  check-none {b} n e t = sym (ap (λ (y : Bool). cond y (assign (registerA w) a) (stop checkFails)) t) ∙ chosen b n e

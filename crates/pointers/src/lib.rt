@@ -19,6 +19,7 @@ use effects::parts::region_variable;
 use effects::parts::register_b;
 use effects::parts::target_term;
 use effects::registers::register;
+use rules::limits::CHECK_FAILS;
 use state::Machine;
 use state::RegionVariable;
 use state::fields::region_of;
@@ -98,12 +99,12 @@ pub fn check(
 {
     let a = register(s, t, register_b(w));
     if a == 0 {
-        return stop(s, t, 32);
+        return stop(s, t, CHECK_FAILS);
     }
     let x = code[t.at + 1];
     if stands_at(w, x, file, terms, structs, extents, s, t.frame, a) {
         Next::Put(a)
     } else {
-        stop(s, t, 32)
+        stop(s, t, CHECK_FAILS)
     }
 }

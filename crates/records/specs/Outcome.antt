@@ -5,6 +5,7 @@ use Prim.Native.Nat.{ℕ, _+_, _<_, _≤_}
 use native.Mathlib.Omega.{arith}
 use Rattle.words.specs.Bytes.{Bytes}
 use Rattle.words.specs.First.{first}
+use Rattle.rules.specs.Limits.{badRecord}
 use Rattle.rules.specs.File.{records}
 use Rattle.rules.specs.Records.{recordTest, recordStage}
 use Rattle.rules.specs.Verdict.{moduleRules, recordRules}
@@ -21,7 +22,7 @@ unfolding recordRules recordsOf
 verdict-records f = verdict-outcome (recordStage f ∷ []) (moduleRules f)
 
 module _ (f : Bytes) {n p : ℕ} (hn : n ≡ records f) (q : p ≡ first (records f + 1) (recordTest f)) where
-  pub wrong-record : p ≤ n → Refused 4 p ≡ recordsOf f
+  pub wrong-record : p ≤ n → Refused badRecord p ≡ recordsOf f
   unfolding recordsOf
   wrong-record h = sym (refuses (recordStage f) [] q (omega arith))
 

@@ -14,6 +14,7 @@ ghost use Rattle.records.specs.Checked.{checkedOf};
 ghost use Rattle.records.specs.Records.{Filled};
 use framing::Outcome;
 use rules::Walk;
+use rules::limits::BAD_RECORD;
 use walk::tables::Tables;
 
 // The first place at which refusal 4 is due, where the walk is in the filler before record `from`, and no record before it is at fault.
@@ -94,7 +95,7 @@ pub fn record_rules(f: &[u8], t: Tables) -> Outcome
     let p = first_fault(f, t);
     if p <= n {
         Outcome::Refused {
-            number: 4,
+            number: BAD_RECORD,
             place: p,
         }
     } else {

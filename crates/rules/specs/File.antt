@@ -6,7 +6,7 @@ use lib.Dec.{leb, eqb}
 use lib.ListN.{length}
 use Rattle.words.specs.Bytes.{Bytes, byteAt, number}
 use Rattle.words.specs.First.{sumBelow}
-use Rattle.rules.specs.Limits.{blockBytes, mostBlocks, blockRecords, recordBytes, checkAt}
+use Rattle.rules.specs.Limits.{blockBytes, mostBlocks, blockRecords, recordBytes, checkAt, badFile, badBlock}
 use Rattle.rules.specs.Stages.{Stage}
 use Rattle.rules.specs.declared.Record.{Record}
 use Rattle.rules.specs.declared.Group.{Group}
@@ -42,14 +42,14 @@ checkRight f i = eqb (checkSum f (blockBytes * i) checkAt) (number 4 f (blockByt
 
 -- "1 file length": one test, its place 0
 abbrev pub lengthStage : Bytes → Stage
-lengthStage f = record { count = 1; test = λ p. lengthRight f; number = λ p. 1; place = λ p. 0 }
+lengthStage f = record { count = 1; test = λ p. lengthRight f; number = λ p. badFile; place = λ p. 0 }
 
 -- "2 place or count of a block, 3 its check: block by block, 2 first": two tests for each block
 unfoldable pub blockTest : Bytes → ℕ → Bool
 blockTest f p = cond (eqb (p % 2) 0) (placeRight f (p / 2)) (checkRight f (p / 2))
 
 abbrev pub blockStage : Bytes → Stage
-blockStage f = record { count = 2 * blocks f; test = blockTest f; number = λ p. 2 + p % 2; place = λ p. p / 2 }
+blockStage f = record { count = 2 * blocks f; test = blockTest f; number = λ p. badBlock + p % 2; place = λ p. p / 2 }
 
 -- ---- records
 

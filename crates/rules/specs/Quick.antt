@@ -8,6 +8,7 @@ use Prim.Native.Nat.{ℕ, zero, suc, _+_}
 use lib.Dec.{ltb}
 use Rattle.words.specs.Bytes.{Bytes}
 use Rattle.words.specs.First.{first, firstFrom}
+use Rattle.rules.specs.Limits.{badRecord}
 use Rattle.rules.specs.Stages.{verdict}
 use Rattle.rules.specs.File.{records, lengthStage, blockStage}
 use Rattle.rules.specs.Walk.{Scan, scan, nextScan, whole, start}
@@ -33,7 +34,7 @@ along-first f t (suc k) r = go (t (scan f r .walk) r) (along-first f t k (suc r)
     go false e = refl
 
 abbrev pub refusedAt : ℕ → ℕ → Verdict → Verdict
-refusedAt n p v = cond (ltb p n) (Refused 4 p) v
+refusedAt n p v = cond (ltb p n) (Refused badRecord p) v
 
 unfoldable pub quickRecords : Bytes → Verdict
 quickRecords f =

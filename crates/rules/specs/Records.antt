@@ -6,7 +6,7 @@ use Prim.Native.Nat.{ℕ, _+_}
 use lib.Dec.{ltb, leb, eqb}
 use lib.ListN.{getD}
 use Rattle.words.specs.Bytes.{Bytes}
-use Rattle.rules.specs.Limits.{mostTerms, mostStructs, mostFunctions, mostRegions, mostRegionParams, mostEntries, mostRegisters, mostInstructions, sizeLimit}
+use Rattle.rules.specs.Limits.{mostTerms, mostStructs, mostFunctions, mostRegions, mostRegionParams, mostEntries, mostRegisters, mostInstructions, sizeLimit, badRecord}
 use Rattle.rules.specs.Stages.{Stage}
 use Rattle.rules.specs.File.{records, recordOf, byteOfD, entryOf, regionsOf, returnOf, parametersOf, instructionsOf, within, isTerm, isInstruction, kindFiller, kindInteger, kindPointer, kindArray, kindStruct, kindName, kindFields, kindFunction, kindRegions, kindRegisters, kindArguments}
 use Rattle.rules.specs.Walk.{Scan, scan, whole, namesEnd, isEnd}
@@ -154,4 +154,4 @@ unfoldable pub recordTest : Bytes → ℕ → Bool
 recordTest f r = recordTestWith f (whole f) r (scan f r .walk)
 
 abbrev pub recordStage : Bytes → Stage
-recordStage f = record { count = records f + 1; test = recordTest f; number = λ p. 4; place = λ p. p }
+recordStage f = record { count = records f + 1; test = recordTest f; number = λ p. badRecord; place = λ p. p }

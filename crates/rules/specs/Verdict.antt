@@ -8,6 +8,7 @@ use native.Mathlib.Decide.{ℕ-discrete}
 use Rattle.words.specs.Bytes.{Bytes, listOf}
 use Rattle.words.specs.First.{sumBelow}
 use Rattle.words.specs.Decide.{does, decBoth, decImp}
+use Rattle.rules.specs.Limits.{badType, badFunction, badInstruction, badEnd}
 use Rattle.rules.specs.Stages.{Stage, verdict}
 use Rattle.rules.specs.File.{blocks, records, lengthRight, placeRight, checkRight, lengthStage, blockStage}
 use Rattle.rules.specs.Records.{recordTest, recordStage}
@@ -27,31 +28,31 @@ unfoldable pub structTest : Module → ℕ → Bool
 structTest m N = does (decStruct m N)
 
 abbrev pub termStage : Module → Stage
-termStage m = record { count = m .terms; test = termTest m; number = λ t. 5; place = λ t. t }
+termStage m = record { count = m .terms; test = termTest m; number = λ t. badType; place = λ t. t }
 
 abbrev pub structStage : Module → Stage
-structStage m = record { count = m .structs; test = structTest m; number = λ N. 5; place = structStart (m .terms) }
+structStage m = record { count = m .structs; test = structTest m; number = λ N. badType; place = structStart (m .terms) }
 
 -- "6 the function's record 7"; function 0 must also be an entry
 unfoldable pub functionTest : Module → ℕ → Bool
 functionTest m g = does (decBoth (decFunction (m .function g)) (decImp (ℕ-discrete g 0) (decEntry (m .function g))))
 
 abbrev pub functionStage : Bytes → Module → Stage
-functionStage f m = record { count = m .functions; test = functionTest m; number = λ g. 6; place = startOf f }
+functionStage f m = record { count = m .functions; test = functionTest m; number = λ g. badFunction; place = startOf f }
 
 -- "7 an instruction breaks its rule": one stage for each function, so that lower places come first
 unfoldable pub instructionTest : Module → Function → ℕ → Bool
 instructionTest m F i = does (decTyped m F (F .code i))
 
 unfoldable pub instructionStage : Bytes → Module → ℕ → Stage
-instructionStage f m g = let F = m .function g in record { count = F .codeLength; test = instructionTest m F; number = λ i. 7; place = instructionAt f g }
+instructionStage f m g = let F = m .function g in record { count = F .codeLength; test = instructionTest m F; number = λ i. badInstruction; place = instructionAt f g }
 
 -- "8 the last is neither 31 nor 34 (place: that record)"
 unfoldable pub lastTest : Module → ℕ → Bool
 lastTest m g = let F = m .function g in does (decLast (F .code (F .codeLength - 1)))
 
 abbrev pub lastStage : Bytes → Module → Stage
-lastStage f m = record { count = m .functions; test = lastTest m; number = λ g. 8; place = λ g. instructionAt f g (m .function g .codeLength - 1) }
+lastStage f m = record { count = m .functions; test = lastTest m; number = λ g. badEnd; place = λ g. instructionAt f g (m .function g .codeLength - 1) }
 
 unfoldable pub moduleStages : Bytes → Module → List Stage
 moduleStages f m = termStage m ∷ structStage m ∷ functionStage f m ∷ (listOf (instructionStage f m) (m .functions) ++ lastStage f m ∷ [])

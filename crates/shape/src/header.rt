@@ -5,12 +5,9 @@ ghost use Rattle.rules.specs.State.{view};
 ghost use Rattle.rules.specs.StateTest.{decStatus};
 ghost use Rattle.stack.specs.Tells.{Tells};
 ghost use Rattle.shape.specs.Header.{HeaderOk};
+use rules::limits::OUTPUT_FULL;
+use rules::limits::ZERO_ADDRESS;
 use state::Machine;
-
-// "31" to "39": the reasons to stop
-const FIRST_STOP: u8 = 31;
-
-const LAST_STOP: u8 = 39;
 
 pub fn status_ok(s: &[u8]) -> bool
     ensures { λ b. ⌜ b ≡ does (decStatus (view (now (s .entry)))) ⌝ }
@@ -20,7 +17,8 @@ pub fn status_ok(s: &[u8]) -> bool
     let result = state::total::result(s);
     let open = (0 < n) & (result == 0);
     ((status == 0) & open)
-        | ((((FIRST_STOP <= status) & (status <= LAST_STOP)) & open) | ((status == 1) & (n == 0)))
+        | ((((ZERO_ADDRESS <= status) & (status <= OUTPUT_FULL)) & open)
+            | ((status == 1) & (n == 0)))
 }
 
 pub fn header_ok(s: &[u8]) -> bool

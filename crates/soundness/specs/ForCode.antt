@@ -14,7 +14,7 @@ use lib.ListN.{length}
 use borrow.Author.Tests.{eqb-true, eq-eqb, ltb-true, leb-true}
 use Rattle.words.specs.Bytes.{Bytes, AllBytes}
 use Rattle.words.specs.Choose.{both, both-of, true-not-false, cond-yes, cond-eq, cond-le}
-use Rattle.rules.specs.Limits.{pageBytes, memoryBytes, mostForm, outputBytes, stateBytes, memoryAt}
+use Rattle.rules.specs.Limits.{pageBytes, memoryBytes, mostForm, outputBytes, stateBytes, memoryAt, badInput, badLength, badState, notRunning}
 use Rattle.words.specs.Decide.{does}
 use Rattle.rules.specs.Module.{Module}
 use Rattle.rules.specs.Flat.{size}
@@ -143,10 +143,10 @@ pub go-went : (f form s o : Bytes) (b : ℕ) → IsAccepted (verdictOf f) → Al
 unfolding goOf
 go-went f form s o b acc h few l p z k =
     verdict-accepted refused (verdictOf f) _ acc
-    ∙ cond-le _ (refused 9 0) few
-    ∙ cond-yes _ (refused 20 0) (both-of (eq-eqb (length s) stateBytes (p .size)) (eq-eqb (length o) outputBytes k))
-    ∙ cond-yes _ (refused 21 0) (passes-does (moduleOf f) s p)
-    ∙ cond-eq _ (refused 22 0) z
+    ∙ cond-le _ (refused badInput 0) few
+    ∙ cond-yes _ (refused badLength 0) (both-of (eq-eqb (length s) stateBytes (p .size)) (eq-eqb (length o) outputBytes k))
+    ∙ cond-yes _ (refused badState 0) (passes-does (moduleOf f) s p)
+    ∙ cond-eq _ (refused notRunning 0) z
     ∙ went-is (runOf (moduleOf f) form b s o) (accepted-moves f form b s o acc h l p)
 
 -- an opened state is steady, and runs

@@ -14,7 +14,7 @@ use borrow.Author.Tests.{ltb-true, eqb-true, not-false}
 use Rattle.words.specs.Bytes.{Bytes, AllBytes, byteAt}
 use Rattle.words.specs.FirstLaws.{firstFrom-least}
 use Rattle.words.specs.Choose.{cond-lt, cond-nlt, cond-split, split-lt, split-eq, both}
-use Rattle.rules.specs.Limits.{pages, pageBytes, firstPage, pastPage, mostFrames, outputBytes}
+use Rattle.rules.specs.Limits.{pages, pageBytes, firstPage, pastPage, mostFrames, outputBytes, zeroAddress, checkFails, noPage, indexPast, formEnded, outputFull, tooDeep}
 use Rattle.words.specs.Decide.{does, does-true, decAll}
 use Rattle.rules.specs.Types.{variable, live, Variable, region, Tree, int, ptr, arr, sub, width, arg, Uses, in-ptr, Primitive}
 use Rattle.rules.specs.Module.{Module, Function, regions, argument, Instruction, operate, check, new, call}
@@ -50,9 +50,9 @@ module _ (P : Effect → Type 0) where
   need-safe (yes h) e a p = p
   need-safe (no n) e a p = absurd (n a)
 
-  notZero-safe : (x : ℕ) (e : Effect) → P (stop 31) → (x ≢ 0 → P e) → P (notZero x e)
+  notZero-safe : (x : ℕ) (e : Effect) → P (stop zeroAddress) → (x ≢ 0 → P e) → P (notZero x e)
   unfolding notZero
-  notZero-safe x e p q = split-eq P x 0 (stop 31) e (λ z. p) q
+  notZero-safe x e p q = split-eq P x 0 (stop zeroAddress) e (λ z. p) q
 
   onInt-safe : (T : Tree variable) (w : ℕ) (e : ℕ → Effect) → T ≡ int w → P (e w) → P (onInt T e)
   unfolding onInt
@@ -180,14 +180,14 @@ module _ (m : Module) (ok : ModuleOk m) (form : Bytes) (bytes : AllBytes form) (
   check-safe a b T r hb ra n =
       need-safe (Safe m v k) (decHeld m form v k (top m v k) b) _ (held b hb)
       (onPtr-safe (Safe m v k) (top m v k .registerType a) T r
-      (λ T r. need (decHome m (v .fn) (v .map) k (top m v k) r) (cond (eqb (v .reg k b) 0) (stop 32)
-      (cond (does (decStands m (heapTyping m v (suc k)) (close (v .map k) T) (v .map k r) (v .reg k b))) (assign a (v .reg k b)) (stop 32))))
+      (λ T r. need (decHome m (v .fn) (v .map) k (top m v k) r) (cond (eqb (v .reg k b) 0) (stop checkFails)
+      (cond (does (decStands m (heapTyping m v (suc k)) (close (v .map k) T) (v .map k r) (v .reg k b))) (assign a (v .reg k b)) (stop checkFails))))
       (ra .1)
       (need-safe (Safe m v k) (decHome m (v .fn) (v .map) k (top m v k) (r .number)) _ (home (r .number) (pointer-scope a T r ra))
-      (split-eq (Safe m v k) (v .reg k b) 0 (stop 32) _ (λ z. listed 32 (omega arith) (omega arith))
-      (λ z. cond-split (Safe m v k) (does (decStands m (heapTyping m v (suc k)) (close (v .map k) T) (v .map k (r .number)) (v .reg k b))) (assign a (v .reg k b)) (stop 32)
+      (split-eq (Safe m v k) (v .reg k b) 0 (stop checkFails) _ (λ z. listed checkFails (omega arith) (omega arith))
+      (λ z. cond-split (Safe m v k) (does (decStands m (heapTyping m v (suc k)) (close (v .map k) T) (v .map k (r .number)) (v .reg k b))) (assign a (v .reg k b)) (stop checkFails)
       (λ h. set-run a T r (v .reg k b) ra n (does-true (decStands m (heapTyping m v (suc k)) (close (v .map k) T) (v .map k (r .number)) (v .reg k b)) h))
-      (λ h. listed 32 (omega arith) (omega arith))))))
+      (λ h. listed checkFails (omega arith) (omega arith))))))
 
   -- ---- 25 and 26
 
@@ -230,8 +230,8 @@ module _ (m : Module) (ok : ModuleOk m) (form : Bytes) (bytes : AllBytes form) (
       → Safe m v k (allocate (v .owner) (v .mark) firstPage pastPage (v .map k (r .number)) (size m (top m v k .regionType (r .number))) a)
   unfolding allocate roomPage unownedPage hasRoom
   allocate-safe a T r ra e n =
-      split-lt (Safe m v k) p pastPage (takePlace p (unusedPlace (v .owner) (v .mark) s p) a (pageBytes * p + s * unusedPlace (v .owner) (v .mark) s p)) (cond (ltb q pastPage) (grantPage q i a) (stop 34)) old
-      (λ _. split-lt (Safe m v k) q pastPage (grantPage q i a) (stop 34) fresh (λ _. listed 34 (omega arith) (omega arith)))
+      split-lt (Safe m v k) p pastPage (takePlace p (unusedPlace (v .owner) (v .mark) s p) a (pageBytes * p + s * unusedPlace (v .owner) (v .mark) s p)) (cond (ltb q pastPage) (grantPage q i a) (stop noPage)) old
+      (λ _. split-lt (Safe m v k) q pastPage (grantPage q i a) (stop noPage) fresh (λ _. listed noPage (omega arith) (omega arith)))
     where
       i : ℕ
       i = v .map k (r .number)
@@ -392,23 +392,23 @@ module _ (m : Module) (ok : ModuleOk m) (form : Bytes) (bytes : AllBytes form) (
   kind-safe e (t-field {a} {b} {d} {r} {T} {U} rb ra run) n =
       need-safe (Safe m v k) (decHeld m form v k (top m v k) b) _ (held b (rb .0))
       (onPtr-safe (Safe m v k) (top m v k .registerType b) T r (λ T r. notZero (v .reg k b) (assign a (v .reg k b + distance (flat m T) d))) (rb .1)
-      (notZero-safe (Safe m v k) (v .reg k b) _ (listed 31 (omega arith) (omega arith))
+      (notZero-safe (Safe m v k) (v .reg k b) _ (listed zeroAddress (omega arith) (omega arith))
       (λ z. set-run a U r (v .reg k b + distance (flat m T) d) ra n
       (stands-field m (ok .types) (heapTyping m v (suc k)) (v .map k) T U (v .map k (r .number)) (v .reg k b) d (pointee-ok b T r rb) (pointee-ok a U r ra) run (pointed b T r rb z)))))
   kind-safe e (t-index {a} {b} {c} {n = count} {r} {T} rb rc ra) n =
       need-safe (Safe m v k) (decHeld m form v k (top m v k) b) _ (held b (rb .0))
       (need-safe (Safe m v k) (decHeld m form v k (top m v k) c) _ (held c (rc .0))
       (onPtr-safe (Safe m v k) (top m v k .registerType b) (arr count T) r
-      (λ T r. onArr T (λ x U. notZero (v .reg k b) (cond (ltb (v .reg k c) x) (assign a (v .reg k b + v .reg k c * size m U)) (stop 33)))) (rb .1)
+      (λ T r. onArr T (λ x U. notZero (v .reg k b) (cond (ltb (v .reg k c) x) (assign a (v .reg k b + v .reg k c * size m U)) (stop indexPast)))) (rb .1)
       (unfold onArr in
-      notZero-safe (Safe m v k) (v .reg k b) _ (listed 31 (omega arith) (omega arith))
-      (λ z. split-lt (Safe m v k) (v .reg k c) count (assign a (v .reg k b + v .reg k c * size m T)) (stop 33)
+      notZero-safe (Safe m v k) (v .reg k b) _ (listed zeroAddress (omega arith) (omega arith))
+      (λ z. split-lt (Safe m v k) (v .reg k c) count (assign a (v .reg k b + v .reg k c * size m T)) (stop indexPast)
       (λ h. set-run a T r (v .reg k b + v .reg k c * size m T) ra n
       (stands-element m (ok .types) (heapTyping m v (suc k)) (v .map k) T count (v .map k (r .number)) (v .reg k b) (v .reg k c) (pointee-ok b (arr count T) r rb) h (pointed b (arr count T) r rb z)))
-      (λ h. listed 33 (omega arith) (omega arith))))))
+      (λ h. listed indexPast (omega arith) (omega arith))))))
   kind-safe e (t-load {a} {b} {r} {T} rb ra) n =
       need-safe (Safe m v k) (decHeld m form v k (top m v k) b) _ (held b (rb .0))
-      (notZero-safe (Safe m v k) (v .reg k b) _ (listed 31 (omega arith) (omega arith)) (λ z.
+      (notZero-safe (Safe m v k) (v .reg k b) _ (listed zeroAddress (omega arith) (omega arith)) (λ z.
       let prim : Primitive T = subst (λ (U : Tree variable). Primitive U) (ra .1) (facts .registerPrimitive a (ra .0)) in
       rw (ra .1) (record {
         register = ra .0;
@@ -420,7 +420,7 @@ module _ (m : Module) (ok : ModuleOk m) (form : Bytes) (bytes : AllBytes form) (
   kind-safe e (t-store {a} {b} {r} {T} ra rb) n =
       need-safe (Safe m v k) (decHeld m form v k (top m v k) a) _ (held a (ra .0))
       (need-safe (Safe m v k) (decHeld m form v k (top m v k) b) _ (held b (rb .0))
-      (notZero-safe (Safe m v k) (v .reg k a) _ (listed 31 (omega arith) (omega arith)) (λ z.
+      (notZero-safe (Safe m v k) (v .reg k a) _ (listed zeroAddress (omega arith) (omega arith)) (λ z.
       let prim : Primitive T = subst (λ (U : Tree variable). Primitive U) (rb .1) (facts .registerPrimitive b (rb .0)) in
       rw (rb .1) (record {
         type = close (v .map k) T;
@@ -439,17 +439,17 @@ module _ (m : Module) (ok : ModuleOk m) (form : Bytes) (bytes : AllBytes form) (
       (onPtr-safe (Safe m v k) (top m v k .registerType a) T r
       (λ T r. need (decHome m (v .fn) (v .map) k (top m v k) r) (notZero (v .reg k a) (freePlace (v .reg k a / pageBytes) (v .reg k a % pageBytes / size m (top m v k .regionType r))))) (ra .1)
       (need-safe (Safe m v k) (decHome m (v .fn) (v .map) k (top m v k) (r .number)) _ (home (r .number) scope)
-      (notZero-safe (Safe m v k) (v .reg k a) _ (listed 31 (omega arith) (omega arith)) (λ z. free-safe a T r ra n z))))
+      (notZero-safe (Safe m v k) (v .reg k a) _ (listed zeroAddress (omega arith) (omega arith)) (λ z. free-safe a T r ra n z))))
   kind-safe e (t-input {a} {c} rc ra) n =
       need-safe (Safe m v k) (decHeld m form v k (top m v k) c) _ (held c (rc .0))
-      (split-lt (Safe m v k) (v .reg k c) (length form) (assign a (byteAt form (v .reg k c))) (stop 38)
+      (split-lt (Safe m v k) (v .reg k c) (length form) (assign a (byteAt form (v .reg k c))) (stop formEnded)
       (λ h. set-int a 1 (byteAt form (v .reg k c)) ra n (bytes (v .reg k c)))
-      (λ h. listed 38 (omega arith) (omega arith)))
+      (λ h. listed formEnded (omega arith) (omega arith)))
   kind-safe e (t-output {b} rb) n =
       need-safe (Safe m v k) (decHeld m form v k (top m v k) b) _ (held b (rb .0))
-      (split-lt (Safe m v k) (v .outputCount) outputBytes (emit (v .reg k b)) (stop 39)
+      (split-lt (Safe m v k) (v .outputCount) outputBytes (emit (v .reg k b)) (stop outputFull)
       (λ h. (n, h, int-held b 1 rb))
-      (λ h. listed 39 (omega arith) (omega arith)))
+      (λ h. listed outputFull (omega arith) (omega arith)))
   kind-safe e (t-jump h) n = h
   kind-safe e (t-branch {a} {d} {w} ra h) n =
       need-safe (Safe m v k) (decHeld m form v k (top m v k) a) _ (held a (ra .0))
@@ -459,8 +459,8 @@ module _ (m : Module) (ok : ModuleOk m) (form : Bytes) (bytes : AllBytes form) (
       need-safe (Safe m v k) (decAll (λ i. decHeld m form v k (top m v k) (argument xs i)) (m .function h .params)) _ (λ i l. held (argument xs i) (arguments i l .0))
       (need-safe (Safe m v k) (decAll (λ i. decLive m (v .fn) (v .map) (suc k) (suc (v .map k (arg rs (region i) .number)))) (m .function h .regionParams)) _
       (λ i l. home (arg rs (region i) .number) (scope i l) .alive)
-      (split-lt (Safe m v k) (suc k) mostFrames (push h (calleeMap m form v k (top m v k) (m .function h) rs) (calleeRegisters m form v k (top m v k) (m .function h) xs)) (stop 35)
-      (λ l. push-safe a h rs xs e rule l) (λ l. listed 35 (omega arith) (omega arith))))
+      (split-lt (Safe m v k) (suc k) mostFrames (push h (calleeMap m form v k (top m v k) (m .function h) rs) (calleeRegisters m form v k (top m v k) (m .function h) xs)) (stop tooDeep)
+      (λ l. push-safe a h rs xs e rule l) (λ l. listed tooDeep (omega arith) (omega arith))))
   kind-safe e (t-return {a} ra) n = need-safe (Safe m v k) (decHeld m form v k (top m v k) a) _ (held a (ra .0)) (return-safe a ra k refl)
 
   -- the next effect of a good state is safe

@@ -2,6 +2,7 @@
 use mathlib.Core.Path.{ap, _∙_}
 use Prim.Native.Nat.{ℕ}
 use denote.Ref.{now}
+use Rattle.rules.specs.Limits.{badFunction}
 use Rattle.rules.specs.Decode.{moduleOf}
 use Rattle.rules.specs.declared.Verdict.the-variants as verdicts
 use Rattle.rules.specs.Verdict.{functionStage, functionTest}
@@ -24,7 +25,7 @@ typed-rules-requires c κs = let a = c .before .before .before .args in let p = 
 
 returns : tie.Need-returns
 unfolding functionRules
-returns c = let f = now (c .before .before .before .before .args .f) in let p = c .before .before .before .before .pre in ap (verdicts.Refused 6) (c .start-of .ensures) ∙ stage-refuses (functionStage f (moduleOf f)) (typedRules f) (c .before .before .first-function .ensures ∙ ap (λ (n : ℕ). first n (functionTest (moduleOf f))) (p .0 .functions)) (omega (arith, p .0 .functions, c .before .if1 .taken))
+returns c = let f = now (c .before .before .before .before .args .f) in let p = c .before .before .before .before .pre in ap (verdicts.Refused badFunction) (c .start-of .ensures) ∙ stage-refuses (functionStage f (moduleOf f)) (typedRules f) (c .before .before .first-function .ensures ∙ ap (λ (n : ℕ). first n (functionTest (moduleOf f))) (p .0 .functions)) (omega (arith, p .0 .functions, c .before .if1 .taken))
 
 returns-2 : tie.Need-returns-2
 unfolding functionRules

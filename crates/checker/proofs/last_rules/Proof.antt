@@ -2,6 +2,7 @@
 use mathlib.Core.Path.{ap, _∙_}
 use Prim.Native.Nat.{ℕ}
 use denote.Ref.{now}
+use Rattle.rules.specs.Limits.{badEnd}
 use Rattle.rules.specs.Decode.{moduleOf}
 use Rattle.rules.specs.declared.Verdict.the-variants as verdicts
 use Rattle.rules.specs.Verdict.{lastStage, lastTest, acceptedAs}
@@ -28,7 +29,7 @@ returns c =
     let a = c .before .before .before .before .args in
     let f = now (a .f) in
     let p = c .before .before .before .before .pre in
-    ap (verdicts.Refused 8) (c .last-place .ensures ∙ last-place-is f _ (a .g) (c .before .start-of .ensures))
+    ap (verdicts.Refused badEnd) (c .last-place .ensures ∙ last-place-is f _ (a .g) (c .before .start-of .ensures))
     ∙ stage-refuses (lastStage f (moduleOf f)) (acceptedAs (moduleOf f)) (p .1 ∙ ap (λ (n : ℕ). first n (lastTest (moduleOf f))) (p .0 .functions)) (omega (arith, p .0 .functions, c .before .before .if1 .taken))
 
 returns-2 : tie.Need-returns-2

@@ -2,6 +2,7 @@
 use mathlib.Core.Path.{ap, _∙_}
 use Prim.Native.Nat.{ℕ}
 use denote.Ref.{now}
+use Rattle.rules.specs.Limits.{badType}
 use Rattle.rules.specs.Decode.{moduleOf}
 use Rattle.rules.specs.declared.Verdict.the-variants as verdicts
 use Rattle.rules.specs.Verdict.{structStage, structTest}
@@ -27,7 +28,7 @@ function-rules-requires c κs = search needs
 
 returns : tie.Need-returns
 unfolding structRules
-returns c = let f = now (c .before .before .before .args .f) in let p = c .before .before .before .pre .0 .counted in ap (λ (n : ℕ). verdicts.Refused 5 (n + 2 * c .before .first-struct .result)) (p .terms .are) ∙ stage-refuses (structStage (moduleOf f)) (functionRules f) (c .before .first-struct .ensures ∙ ap (λ (n : ℕ). first n (structTest (moduleOf f))) (p .structs)) (omega (arith, p .structs, c .if1 .taken))
+returns c = let f = now (c .before .before .before .args .f) in let p = c .before .before .before .pre .0 .counted in ap (λ (n : ℕ). verdicts.Refused badType (n + 2 * c .before .first-struct .result)) (p .terms .are) ∙ stage-refuses (structStage (moduleOf f)) (functionRules f) (c .before .first-struct .ensures ∙ ap (λ (n : ℕ). first n (structTest (moduleOf f))) (p .structs)) (omega (arith, p .structs, c .if1 .taken))
 
 returns-2 : tie.Need-returns-2
 unfolding structRules

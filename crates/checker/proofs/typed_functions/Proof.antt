@@ -2,6 +2,7 @@
 use mathlib.Core.Path.{_≡_, sym, ap, _∙_}
 use Prim.Native.Nat.{ℕ, _<_, _≤_, _-_}
 use denote.Ref.{now}
+use Rattle.rules.specs.Limits.{badInstruction}
 use Rattle.rules.specs.declared.Record.{Record}
 use Rattle.instructions.specs.Scan.{typedFrom, typed-passes, typed-refuses, typed-ended}
 use Rattle.functions.specs.Functions.{functionAt, start-small, length-at}
@@ -72,7 +73,7 @@ returns c =
     let i : found .index < functionAt f h .codeLength = omega (arith, n, c .if1 .taken) in
     let e : suc (a .c - (g + 1)) ≡ a .c - g = omega (arith, c .before .before .before .before .before .before .loop-test .taken) in (
       sym (typed-refuses f g (a .c - (g + 1)) h (found .index) (found .place) (c .before .before .before .before .before .start-of .ensures) (l .0) i (l .1 i)) ∙ ap (typedFrom f g) e ∙ c .before .before .before .before .before .before .before .loop .inv .1,
-      λ q. let w : Refused 7 (found .place) ≡ Passed = q in absurd (let z : _≡_ {A = ℕ} 0 1 = cc in omega arith),
+      λ q. let w : Refused badInstruction (found .place) ≡ Passed = q in absurd (let z : _≡_ {A = ℕ} 0 1 = cc in omega arith),
     )
 
 last-ends-requires : tie.Need-last-ends-requires Inv-loop μ-loop
