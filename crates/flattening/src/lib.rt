@@ -4,19 +4,22 @@ ghost use mathlib.Core.Path.{_≡_};
 ghost use mathlib.Core.Bool.{true};
 ghost use Prim.Native.Nat.{_+_, _*_, _<_, _≤_};
 ghost use lib.ListN.{set};
+ghost use Rattle.rules.specs.Limits.{mostStructs, sizeLimit};
 ghost use Rattle.rules.specs.Flat.{count, copiesOf};
 ghost use Rattle.positions.specs.Table.{Known, termLayout, structLayout};
 ghost use Rattle.positions.specs.Positions.{Keeps, Agree};
 ghost use Rattle.flattening.specs.Written.{entryOf, Room, Near, Written, Kept, Shifted, Past};
 use positions::Core;
 use positions::Primitive;
+use rules::limits::MOST_STRUCTS;
+use rules::limits::SIZE_LIMIT;
 use terms::Head;
 
 // Entries of primitives come first, as many as a term can have; from MEMO on there is one for each struct, place 0 where it was not written yet: the
 // first of its primitives, from 1, and the distance and substitution with which it was written last.
-const MEMO: usize = 256;
+const MEMO: usize = SIZE_LIMIT;
 
-pub const ENTRIES: usize = 288;
+pub const ENTRIES: usize = SIZE_LIMIT + MOST_STRUCTS;
 
 // ---- entries
 
@@ -29,7 +32,7 @@ fn put(
     to: [u8; 8],
     off: usize,
 )
-    requires { ⌜ (at < 288) × (place ≤ 256) × (off ≤ 256) ⌝ }
+    requires { ⌜ (at < sizeLimit + mostStructs) × (place ≤ 256) × (off ≤ sizeLimit) ⌝ }
     ensures { λ _. ⌜ (now (subs .exit) ≡ set (now (subs .entry)) at to) × (now (spots .exit) ≡ set (now (spots .entry)) at (off + 1024 * place)) ⌝ }
 {
     subs[at] = to;
@@ -38,7 +41,7 @@ fn put(
 
 // Entry j.
 pub fn entry(subs: &[[u8; 8]; ENTRIES], spots: &[u64; ENTRIES], j: usize) -> Primitive
-    requires { ⌜ j < 288 ⌝ }
+    requires { ⌜ j < sizeLimit + mostStructs ⌝ }
     ensures { λ r. ⌜ r ≡ entryOf (now (subs .entry)) (now (spots .entry)) j ⌝ }
 {
     let x = spots[j];
@@ -59,7 +62,7 @@ fn shifted(
     at: usize,
     by: usize,
 )
-    requires { ⌜ (from + many ≤ at) × (at + many ≤ 256) × (Room (now subs) (now spots)) × (Near (now subs) (now spots) from many by) ⌝ }
+    requires { ⌜ (from + many ≤ at) × (at + many ≤ sizeLimit) × (Room (now subs) (now spots)) × (Near (now subs) (now spots) from many by) ⌝ }
     ensures { λ _. ⌜ Shifted (now (subs .entry)) (now (spots .entry)) (now (subs .exit)) (now (spots .exit)) from many at by ⌝ }
 {
     let mut i = 0;
@@ -103,7 +106,7 @@ pub fn term_written(
     at: usize,
     tab: &[u64],
 )
-    requires { do let L = termLayout (now f) k p in ⌜ (p ≤ n) × (off + L .size ≤ 256) × (at + count L ≤ 256) × (Keeps to) × (Known (now f) n k (now tab)) × (Room (now subs) (now spots)) × (k ≤ 32) × (Past (now f) (now subs) (now spots) at off) ⌝ }
+    requires { do let L = termLayout (now f) k p in ⌜ (p ≤ n) × (off + L .size ≤ sizeLimit) × (at + count L ≤ sizeLimit) × (Keeps to) × (Known (now f) n k (now tab)) × (Room (now subs) (now spots)) × (k ≤ mostStructs) × (Past (now f) (now subs) (now spots) at off) ⌝ }
     ensures { λ _. ⌜ (Written (now (f .entry)) (now (subs .exit)) (now (spots .exit)) at to off (termLayout (now (f .entry)) k p)) × (Kept (now (subs .entry)) (now (spots .entry)) (now (subs .exit)) (now (spots .exit)) at) × (Past (now (f .entry)) (now (subs .exit)) (now (spots .exit)) (at + count (termLayout (now (f .entry)) k p)) (off + termLayout (now (f .entry)) k p .size)) ⌝ }
 {
     let e = positions::extent_in(tab, p);
@@ -141,7 +144,7 @@ fn copies_written(
     at: usize,
     tab: &[u64],
 )
-    requires { do let L = termLayout (now f) k a in ⌜ (a ≤ n) × (off + many * L .size ≤ 256) × (at + many * count L ≤ 256) × (Keeps to) × (Known (now f) n k (now tab)) × (Room (now subs) (now spots)) × (k ≤ 32) × (Past (now f) (now subs) (now spots) at off) ⌝ }
+    requires { do let L = termLayout (now f) k a in ⌜ (a ≤ n) × (off + many * L .size ≤ sizeLimit) × (at + many * count L ≤ sizeLimit) × (Keeps to) × (Known (now f) n k (now tab)) × (Room (now subs) (now spots)) × (k ≤ mostStructs) × (Past (now f) (now subs) (now spots) at off) ⌝ }
     ensures { λ _. ⌜ (Written (now (f .entry)) (now (subs .exit)) (now (spots .exit)) at to off (copiesOf many (termLayout (now (f .entry)) k a))) × (Kept (now (subs .entry)) (now (spots .entry)) (now (subs .exit)) (now (spots .exit)) at) × (Past (now (f .entry)) (now (subs .exit)) (now (spots .exit)) (at + many * count (termLayout (now (f .entry)) k a)) (off + many * termLayout (now (f .entry)) k a .size)) ⌝ }
 {
     if many == 0 {
@@ -171,7 +174,7 @@ fn struct_written(
     at: usize,
     tab: &[u64],
 )
-    requires { do let L = structLayout (now f) number in ⌜ (number < 32) × (off + L .size ≤ 256) × (at + count L ≤ 256) × (Keeps to) × (Known (now f) n number (now tab)) × (Room (now subs) (now spots)) × (Past (now f) (now subs) (now spots) at off) × (many ≡ count L) × (0 < many) ⌝ }
+    requires { do let L = structLayout (now f) number in ⌜ (number < mostStructs) × (off + L .size ≤ sizeLimit) × (at + count L ≤ sizeLimit) × (Keeps to) × (Known (now f) n number (now tab)) × (Room (now subs) (now spots)) × (Past (now f) (now subs) (now spots) at off) × (many ≡ count L) × (0 < many) ⌝ }
     ensures { λ _. ⌜ (Written (now (f .entry)) (now (subs .exit)) (now (spots .exit)) at to off (structLayout (now (f .entry)) number)) × (Kept (now (subs .entry)) (now (spots .entry)) (now (subs .exit)) (now (spots .exit)) at) × (Past (now (f .entry)) (now (subs .exit)) (now (spots .exit)) (at + count (structLayout (now (f .entry)) number)) (off + structLayout (now (f .entry)) number .size)) ⌝ }
 {
     let seen = entry(subs, spots, MEMO + number);

@@ -13,11 +13,11 @@ ghost use Rattle.regions.specs.Regions.{lowestIn, filled, numberIn, liveBy, Bou
 ghost use Rattle.frames.specs.Packed.{packed};
 ghost use Rattle.frames.specs.Entered.{putRegisters, putRegions, begun, enteredMap, enteredRegisters, Operands};
 use regions::SET;
-use regions::TABLE;
 use regions::add_frames;
 use regions::add_region;
 use regions::count_of;
 use regions::lowest_number;
+use rules::limits::CALLEES;
 use state::LiveRegion;
 use state::RegionVariable;
 use state::fields::new_frame;
@@ -91,8 +91,8 @@ fn begin(s: &mut [u8], k: u32, t: u32, g: u8, n: u32, p: u32, xs: u64, rs: u32)
 
 // The frame above k for a call of function g: p arguments xs, its region parameters rs, its local regions the lowest numbers not live.
 fn make_frame(
-    params: &[u8; TABLE],
-    locals: &[u8; TABLE],
+    params: &[u8; CALLEES],
+    locals: &[u8; CALLEES],
     s: &mut [u8],
     k: u32,
     g: u8,
@@ -118,8 +118,8 @@ fn make_frame(
 
 // A call of function g by frame k, which is the top frame.
 pub fn enter(
-    params: &[u8; TABLE],
-    locals: &[u8; TABLE],
+    params: &[u8; CALLEES],
+    locals: &[u8; CALLEES],
     s: &mut [u8],
     k: u32,
     g: u8,

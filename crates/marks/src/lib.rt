@@ -1,7 +1,7 @@
 // The marks past the last place of a page, in a state that nobody has tested: the state test's clause on them. The file's tables are
 // handed over; nothing is asked of the state.
-ghost use Prim.Native.Nat.{ℕ, _<_, _≤_};
-ghost use Rattle.rules.specs.Limits.{pages, pageBytes};
+ghost use Prim.Native.Nat.{ℕ, suc, _<_, _≤_};
+ghost use Rattle.rules.specs.Limits.{pages, pageBytes, sizeLimit};
 ghost use Rattle.positions.specs.Table.{Table};
 ghost use Rattle.stack.specs.Tells.{Tells};
 ghost use Rattle.stack.specs.Facts.{Known};
@@ -23,7 +23,7 @@ pub fn places_in(size: usize) -> usize
 }
 
 fn end_mark(s: &[u8], p: u32, size: usize, j: u32) -> bool
-    requires { ⌜ (size ≤ 257) × (j < 256) ⌝ }
+    requires { ⌜ (size ≤ suc sizeLimit) × (j < pageBytes) ⌝ }
     ensures { λ b. ⌜ Tells b (EndMark (now (s .entry)) p size j) ⌝ }
 {
     let x = state::total::mark(s, p, j);
@@ -32,7 +32,7 @@ fn end_mark(s: &[u8], p: u32, size: usize, j: u32) -> bool
 
 // The places from `many` on that are before `to`.
 fn near_marks(s: &[u8], p: u32, size: usize, many: u32, to: u32) -> bool
-    requires { ⌜ (size ≤ 257) × (to ≤ 256) × (PlacesIn size many) ⌝ }
+    requires { ⌜ (size ≤ suc sizeLimit) × (to ≤ pageBytes) × (PlacesIn size many) ⌝ }
     ensures { λ b. ⌜ Tells b ((j : ℕ) → j < to → EndMark (now (s .entry)) p size j) ⌝ }
 {
     let mut j = many;
@@ -47,7 +47,7 @@ fn near_marks(s: &[u8], p: u32, size: usize, many: u32, to: u32) -> bool
 
 // Up to the end of their byte the marks are read one by one, from there on byte by byte.
 fn end_marks(s: &[u8], p: u32, size: usize) -> bool
-    requires { ⌜ (size ≤ 257) × (p < pages) ⌝ }
+    requires { ⌜ (size ≤ suc sizeLimit) × (p < pages) ⌝ }
     ensures { λ b. ⌜ Tells b ((j : ℕ) → j < pageBytes → EndMark (now (s .entry)) p size j) ⌝ }
 {
     let many = places_in(size);

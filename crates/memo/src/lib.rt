@@ -1,9 +1,11 @@
 // Where runs stand, remembered: pointers of one term lead into one region, so that only the distance into its objects tells them apart.
 ghost use Prim.Native.Nat.{_<_, _≤_};
 ghost use lib.ListN.{length};
+ghost use Rattle.rules.specs.Limits.{sizeLimit};
 ghost use Rattle.positions.specs.Table.{Table};
 ghost use Rattle.runs.specs.Runs.{RunAtIs, StandsIs};
 ghost use Rattle.memo.specs.Memo.{Forgotten, Noted, Remembers, SizeIs};
+use rules::limits::SIZE_LIMIT;
 use state::Machine;
 use terms::Live;
 
@@ -21,11 +23,11 @@ fn note(stands: bool) -> u8
 }
 
 // Nothing is remembered any more.
-pub fn forget(memo: &mut [u8; 256])
+pub fn forget(memo: &mut [u8; SIZE_LIMIT])
     ensures { λ _. ⌜ Forgotten (now (memo .exit)) ⌝ }
 {
     let mut i = 0;
-    while i < 256 {
+    while i < SIZE_LIMIT {
         memo[i] = UNKNOWN;
         i += 1;
     }
@@ -45,7 +47,7 @@ fn run_found(
     q: &[u8],
     tab: &[u64],
 ) -> bool
-    requires { ⌜ (Table (now f) n k (now tab)) × (length (now p) ≤ 8) × (length (now q) ≤ 8) × (SizeIs (now f) u size) × (0 < size) × (size ≤ 256) ⌝ }
+    requires { ⌜ (Table (now f) n k (now tab)) × (length (now p) ≤ 8) × (length (now q) ≤ 8) × (SizeIs (now f) u size) × (0 < size) × (size ≤ sizeLimit) ⌝ }
     ensures { λ r. ⌜ RunAtIs (now (f .entry)) u (now (p .entry)) o t (now (q .entry)) r ⌝ }
 {
     if o == 0 {
@@ -68,9 +70,9 @@ fn run_known(
     t: usize,
     q: &[u8],
     tab: &[u64],
-    memo: &mut [u8; 256],
+    memo: &mut [u8; SIZE_LIMIT],
 ) -> bool
-    requires { ⌜ (Table (now f) n k (now tab)) × (length (now p) ≤ 8) × (length (now q) ≤ 8) × (SizeIs (now f) u size) × (0 < size) × (size ≤ 256) × (o < 256) ⌝ ∗ ⌜ Remembers (now f) u (now p) t (now q) (now memo) ⌝ }
+    requires { ⌜ (Table (now f) n k (now tab)) × (length (now p) ≤ 8) × (length (now q) ≤ 8) × (SizeIs (now f) u size) × (0 < size) × (size ≤ sizeLimit) × (o < sizeLimit) ⌝ ∗ ⌜ Remembers (now f) u (now p) t (now q) (now memo) ⌝ }
     ensures { λ r. ⌜ (RunAtIs (now (f .entry)) u (now (p .entry)) o t (now (q .entry)) r) × (Remembers (now (f .entry)) u (now (p .entry)) t (now (q .entry)) (now (memo .exit))) ⌝ }
 {
     let known = memo[o];
@@ -96,7 +98,7 @@ pub fn stands_known(
     t: usize,
     q: &[u8],
     tab: &[u64],
-    memo: &mut [u8; 256],
+    memo: &mut [u8; SIZE_LIMIT],
 ) -> bool
     requires { ⌜ (Table (now f) n k (now tab)) × (length (now p) ≤ 8) × (length (now q) ≤ 8) × (SizeIs (now f) u size) ⌝ ∗ ⌜ Remembers (now f) u (now p) t (now q) (now memo) ⌝ }
     ensures { λ b. ⌜ (StandsIs (now (f .entry)) (r .0) owner u (now (p .entry)) a t (now (q .entry)) b) × (Remembers (now (f .entry)) u (now (p .entry)) t (now (q .entry)) (now (memo .exit))) ⌝ }

@@ -1,7 +1,8 @@
 // Objects of a state that nobody has tested: which frame's type a live region has, the size of its objects, and the object around an
 // address. The file's tables are handed over; nothing is asked of the state.
 ghost use mathlib.Core.Path.{_≡_};
-ghost use Prim.Native.Nat.{_<_, _≤_};
+ghost use Prim.Native.Nat.{suc, _<_, _≤_};
+ghost use Rattle.rules.specs.Limits.{sizeLimit, pageBytes};
 ghost use Rattle.rules.specs.Flat.{size};
 ghost use Rattle.rules.specs.Decode.{moduleOf};
 ghost use Rattle.rules.specs.State.{frameMap};
@@ -102,7 +103,7 @@ pub fn home_of(
     Home { frame: k, term: t }
 }
 
-// The size of the objects of region r, 0 where it is not live. (257 stands for no size.)
+// The size of the objects of region r, 0 where it is not live. (One more than the limit stands for no size.)
 pub fn size_of(
     f: &[u8],
     starts: &[usize; CALLEES],
@@ -115,7 +116,7 @@ pub fn size_of(
     r: u32,
 ) -> usize
     requires { ⌜ Known (now f) (now starts) functions ⌝ ∗ ⌜ Table (now f) terms structs (now tab) ⌝ }
-    ensures { λ z. ⌜ (z ≡ size (moduleOf (now (f .entry))) (regionTree (now (f .entry)) (now (s .entry)) n r)) × (z ≤ 257) ⌝ }
+    ensures { λ z. ⌜ (z ≡ size (moduleOf (now (f .entry))) (regionTree (now (f .entry)) (now (s .entry)) n r)) × (z ≤ suc sizeLimit) ⌝ }
 {
     let h = home_of(f, starts, functions, s, n, r);
     let k = h.frame;
@@ -130,7 +131,7 @@ pub fn size_of(
 
 // In page p, whose objects have this size: the object around byte x.
 fn object_in(p: u32, x: usize, size: usize) -> Area
-    requires { ⌜ (x < 256) × (size ≤ 257) ⌝ }
+    requires { ⌜ (x < pageBytes) × (size ≤ suc sizeLimit) ⌝ }
     ensures { λ r. ⌜ IsPart r (partAt p x size) ⌝ }
 {
     if size == 0 {

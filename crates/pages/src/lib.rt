@@ -95,7 +95,7 @@ fn lowest_place(s: &[u8], p: u32, from: u32, n: u32) -> u32
 // ---- pages
 
 // The entries of `known`, one a page: how many places, from the first on, are known to be used.
-pub const KNOWN: usize = 64;
+pub const KNOWN: usize = Machine::PAGES as usize;
 
 // The lowest page from low on, and below past, that nobody owns; else past.
 pub fn unowned_page(s: &[u8], low: u32, past: u32) -> u32

@@ -4,6 +4,7 @@
 ghost use mathlib.Core.Path.{_≡_};
 ghost use Prim.Native.Nat.{ℕ, _+_, _*_, _/_, _<_, _≤_};
 ghost use lib.ListN.{length};
+ghost use Rattle.rules.specs.Limits.{sizeLimit};
 ghost use Rattle.rules.specs.Flat.{flat, count, size, distance, positionAt};
 ghost use Rattle.rules.specs.Decode.{moduleOf};
 ghost use Rattle.layout.specs.Prims.{nth};
@@ -34,25 +35,29 @@ pub enum Core {
 
 // ---- entries
 
-// A core as a number, and back: places are at most 128, structs come behind them.
+// A core as a number, and back: structs come behind the places of terms, and their regions above CORES.
+const FIRST_STRUCT: usize = MOST_TERMS + 1;
+
+const CORES: usize = 512;
+
 fn core_no(core: Core) -> usize
     requires { ⌜ Fits core ⌝ }
     ensures { λ r. ⌜ r ≡ coreNo core ⌝ }
 {
     match core {
         Core::Term(c) => c,
-        Core::Fields(number, d) => 129 + number + 512 * d,
+        Core::Fields(number, d) => FIRST_STRUCT + number + CORES * d,
     }
 }
 
 fn core_from(x: usize) -> Core
     ensures { λ r. ⌜ r ≡ coreFrom x ⌝ }
 {
-    let low = x % 512;
-    if low < 129 {
+    let low = x % CORES;
+    if low < FIRST_STRUCT {
         return Core::Term(low);
     }
-    Core::Fields(low - 129, x / 512)
+    Core::Fields(low - FIRST_STRUCT, x / CORES)
 }
 
 // An extent and a core as one number of the table.
@@ -300,8 +305,8 @@ fn term_prim(
     i: usize,
     tab: &[u64],
 ) -> Primitive
-    requires { do let L = termLayout (now f) k p in ⌜ (p ≤ n) × (off + L .size ≤ 256) × (i < count L) × (Keeps to) × (Known (now f) n k (now tab)) × (i < 256) ⌝ }
-    ensures { λ r. ⌜ (Found (now (f .entry)) r to off (nth (termLayout (now (f .entry)) k p) i)) × (r .place ≤ n) × (r .off ≤ 256) ⌝ }
+    requires { do let L = termLayout (now f) k p in ⌜ (p ≤ n) × (off + L .size ≤ sizeLimit) × (i < count L) × (Keeps to) × (Known (now f) n k (now tab)) × (i < sizeLimit) ⌝ }
+    ensures { λ r. ⌜ (Found (now (f .entry)) r to off (nth (termLayout (now (f .entry)) k p) i)) × (r .place ≤ n) × (r .off ≤ sizeLimit) ⌝ }
 {
     match core_in(tab, p) {
         Core::Fields(number, d) => {
@@ -335,8 +340,8 @@ fn struct_prim(
     i: usize,
     tab: &[u64],
 ) -> Primitive
-    requires { do let L = structLayout (now f) number in ⌜ (number < 256) × (off + L .size ≤ 256) × (i < count L) × (Keeps to) × (Known (now f) n number (now tab)) × (i < 256) ⌝ }
-    ensures { λ r. ⌜ (Found (now (f .entry)) r to off (nth (structLayout (now (f .entry)) number) i)) × (r .place ≤ n) × (r .off ≤ 256) ⌝ }
+    requires { do let L = structLayout (now f) number in ⌜ (number < 256) × (off + L .size ≤ sizeLimit) × (i < count L) × (Keeps to) × (Known (now f) n number (now tab)) × (i < sizeLimit) ⌝ }
+    ensures { λ r. ⌜ (Found (now (f .entry)) r to off (nth (structLayout (now (f .entry)) number) i)) × (r .place ≤ n) × (r .off ≤ sizeLimit) ⌝ }
 {
     let first = n + 2 * number;
     let x = walk::file::record_at(f, first);
@@ -369,7 +374,7 @@ pub fn place_prim(
     tab: &[u64],
 ) -> Primitive
     requires { ⌜ (Table (now f) n k (now tab)) × (p ≤ n) × (i < count (termLayout (now f) k p)) × (Keeps to) ⌝ }
-    ensures { λ r. ⌜ (Found (now (f .entry)) r to 0 (nth (termLayout (now (f .entry)) k p) i)) × (r .place ≤ n) × (r .off ≤ 256) ⌝ }
+    ensures { λ r. ⌜ (Found (now (f .entry)) r to 0 (nth (termLayout (now (f .entry)) k p) i)) × (r .place ≤ n) × (r .off ≤ sizeLimit) ⌝ }
 {
     term_prim(f, n, k, p, to, 0, i, tab)
 }

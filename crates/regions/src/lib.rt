@@ -8,16 +8,15 @@ ghost use Rattle.rules.specs.Limits.{stateBytes, mostFrames, mostRegions, liveR
 ghost use Rattle.rules.specs.State.{frameFunction, frameMap};
 ghost use Rattle.rules.specs.Heap.{localList};
 ghost use Rattle.regions.specs.Regions.{marked, lowestIn, liveBy, Bounded};
+use rules::limits::CALLEES;
 use state::LiveRegion;
 use state::RegionVariable;
 use state::fields::function;
 use state::fields::region_of;
 use words::wide;
 
-// The entries of a set of regions, and of a table by function number.
+// The entries of a set of regions.
 pub const SET: usize = 257;
-
-pub const TABLE: usize = 256;
 
 pub fn add_region(a: &mut [u8; SET], r: LiveRegion)
     ensures { λ _. ⌜ now (a .exit) ≡ set (now (a .entry)) (suc (r .0)) 1 ⌝ }
@@ -40,7 +39,7 @@ pub fn add_locals(a: &mut [u8; SET], s: &[u8], k: u32, lo: u32, n: u32)
 }
 
 // A table's entry for function g.
-pub fn count_of(table: &[u8; TABLE], g: u8) -> u32
+pub fn count_of(table: &[u8; CALLEES], g: u8) -> u32
     ensures { λ n. ⌜ (n ≡ byteAt (now (table .entry)) g) × (n < 256) ⌝ }
 {
     let i = g as usize;
@@ -50,8 +49,8 @@ pub fn count_of(table: &[u8; TABLE], g: u8) -> u32
 // The set with the local regions of the lowest n frames, and how many they are.
 pub fn add_frames(
     a: &mut [u8; SET],
-    params: &[u8; TABLE],
-    locals: &[u8; TABLE],
+    params: &[u8; CALLEES],
+    locals: &[u8; CALLEES],
     s: &[u8],
     n: u32,
 ) -> u32

@@ -15,6 +15,7 @@ use memo::stands_known;
 use objects::home_of;
 use rules::limits::CALLEES;
 use rules::limits::MOST_ENTRIES;
+use rules::limits::SIZE_LIMIT;
 use stack::regions::head;
 use state::Machine;
 use state::RegionVariable;
@@ -95,7 +96,7 @@ fn stands_at(
     let q = map_of(s, k);
     let owner = state::total::owner(s, x / Machine::PAGE_BYTES);
     let e = positions::extent_at(terms, h.term, tab, f, structs);
-    let mut memo = [0u8; 256];
+    let mut memo = [0u8; SIZE_LIMIT];
     stands_known(
         f,
         terms,

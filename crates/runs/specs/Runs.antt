@@ -20,7 +20,7 @@ use Rattle.rules.specs.Module.{Module}
 use Rattle.rules.specs.Flat.{Placed, at, off, Layout, count, moved, subLayout, flat, distance, decPlaced, Run, decRun, positionAt, Same, decSame, size}
 use Rattle.rules.specs.Decode.{moduleOf}
 use Rattle.layout.specs.Prims.{nth, moved-zero, count-sub, subLayout-size}
-use Rattle.rules.specs.Limits.{pages, pageBytes}
+use Rattle.rules.specs.Limits.{pages, pageBytes, memoryBytes}
 use Rattle.rules.specs.Heap.{HeapTyping, decStands}
 use Rattle.layout.specs.Flat.{distance-zero, size-sub}
 use Rattle.layout.specs.Runs.{run-matches, matches-run, distance-sub}
@@ -226,7 +226,7 @@ module _ (f : Bytes) (n s : ℕ) (tab : List ℕ) (h : Table f n s tab) (p : Byt
 
 -- the run of M stands at byte x of a page of objects of L: "inside", "sized", "fits" and "run" of `Stands`
 unfoldable pub inPage : {k : RegionKind} → Layout k → ℕ → Layout k → Bool
-inPage L x M = ltb 0 (L .size) && (leb (L .size * suc (x / L .size)) 256 && does (decRun L (positionAt L (x % L .size)) M))
+inPage L x M = ltb 0 (L .size) && (leb (L .size * suc (x / L .size)) pageBytes && does (decRun L (positionAt L (x % L .size)) M))
 
 abbrev pub InPageIs : Bytes → ℕ → Bytes → ℕ → ℕ → Bytes → Bool → Type 0
 InPageIs f u p x t q r =
@@ -244,20 +244,20 @@ module _ {k : RegionKind} (L : Layout k) (x : ℕ) (M : Layout k) (sz : ℕ) (is
   unfolding inPage
   page-none e = let z : L .size ≡ 0 = sym is ∙ e in rw z refl
 
-  pub page-past : (sz ≡ 0 → ⊥) → 256 < x / sz * sz + sz → false ≡ inPage L x M
+  pub page-past : (sz ≡ 0 → ⊥) → pageBytes < x / sz * sz + sz → false ≡ inPage L x M
   unfolding inPage
   page-past d h =
       let c = mul-comm (L .size) (suc (x / L .size)) in
-      let w : 256 < x / L .size * L .size + L .size = rw is at h in
-      sym (ap₂ (λ (a b : Bool). a && (b && does (decRun L (positionAt L (x % L .size)) M))) (lt-ltb 0 (L .size) (omega arith)) (lt-leb (L .size * suc (x / L .size)) 256 (omega arith)))
+      let w : pageBytes < x / L .size * L .size + L .size = rw is at h in
+      sym (ap₂ (λ (a b : Bool). a && (b && does (decRun L (positionAt L (x % L .size)) M))) (lt-ltb 0 (L .size) (omega arith)) (lt-leb (L .size * suc (x / L .size)) pageBytes (omega arith)))
 
-  pub page-in : (sz ≡ 0 → ⊥) → x / sz * sz + sz ≤ 256 → (r : Bool) → r ≡ does (decRun L (positionAt L (x % sz)) M) → r ≡ inPage L x M
+  pub page-in : (sz ≡ 0 → ⊥) → x / sz * sz + sz ≤ pageBytes → (r : Bool) → r ≡ does (decRun L (positionAt L (x % sz)) M) → r ≡ inPage L x M
   unfolding inPage
   page-in d h r e =
       let c = mul-comm (L .size) (suc (x / L .size)) in
-      let w : x / L .size * L .size + L .size ≤ 256 = rw is at h in
+      let w : x / L .size * L .size + L .size ≤ pageBytes = rw is at h in
       e ∙ ap (λ (s : ℕ). does (decRun L (positionAt L (x % s)) M)) is
-      ∙ sym (ap₂ (λ (a b : Bool). a && (b && does (decRun L (positionAt L (x % L .size)) M))) (lt-ltb 0 (L .size) (omega arith)) (le-leb (L .size * suc (x / L .size)) 256 (omega arith)))
+      ∙ sym (ap₂ (λ (a b : Bool). a && (b && does (decRun L (positionAt L (x % L .size)) M))) (lt-ltb 0 (L .size) (omega arith)) (le-leb (L .size * suc (x / L .size)) pageBytes (omega arith)))
 
 -- sizes do not depend on regions
 pub size-under : (k : RegionKind) (f p : Bytes) (t : ℕ) → size (moduleOf f) (moduleOf f .term t) ≡ size (moduleOf f) (sub (under {k = k} p) (moduleOf f .term t))
@@ -285,13 +285,13 @@ module _ (f : Bytes) (r owner u : ℕ) (p : Bytes) (a t : ℕ) (q : Bytes) where
       ∙ ap (λ (x : ℕ). (ltb (a / pageBytes) pages && eqb x (suc r)) && inPage (flat (moduleOf f) (sub (under {k = live} p) (moduleOf f .term u))) (a % pageBytes) (flat (moduleOf f) (sub (under q) (moduleOf f .term t)))) own
       ∙ ap (λ (b : Bool). b && inPage (flat (moduleOf f) (sub (under {k = live} p) (moduleOf f .term u))) (a % pageBytes) (flat (moduleOf f) (sub (under q) (moduleOf f .term t)))) h)
 
-  pub stands-far : 16384 ≤ a → StandsIs f r owner u p a t q false
+  pub stands-far : memoryBytes ≤ a → StandsIs f r owner u p a t q false
   stands-far h = stands-no (ap (λ (b : Bool). b && eqb owner (suc r)) (le-ltb (a / pageBytes) pages (omega arith)))
 
   pub stands-other : (owner ≡ suc r → ⊥) → StandsIs f r owner u p a t q false
   stands-other h = stands-no (and-no (ltb (a / pageBytes) pages) (eqb owner (suc r)) (inr (ne-eqb owner (suc r) h)))
 
-  pub stands-in : a < 16384 → owner ≡ suc r → (b : Bool) → InPageIs f u p (a % 256) t q b → StandsIs f r owner u p a t q b
+  pub stands-in : a < memoryBytes → owner ≡ suc r → (b : Bool) → InPageIs f u p (a % pageBytes) t q b → StandsIs f r owner u p a t q b
   stands-in l e b h W own ty =
       sym (stands-test (moduleOf f) W (sub (under q) (moduleOf f .term t)) (sub (under p) (moduleOf f .term u)) r a ty
       ∙ ap₂ (λ (x y : Bool). (x && y) && inPage (flat (moduleOf f) (sub (under {k = live} p) (moduleOf f .term u))) (a % pageBytes) (flat (moduleOf f) (sub (under q) (moduleOf f .term t))))

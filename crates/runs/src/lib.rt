@@ -4,6 +4,7 @@ ghost use mathlib.Core.Path.{_≡_};
 ghost use Prim.Native.Nat.{_+_, _<_, _≤_};
 ghost use lib.ListN.{length};
 ghost use Rattle.words.specs.Decide.{does};
+ghost use Rattle.rules.specs.Limits.{sizeLimit, pageBytes};
 ghost use Rattle.rules.specs.Types.{RegionKind, variable, live, sub};
 ghost use Rattle.rules.specs.Flat.{flat, count, decPlaced, decRun, moved, subLayout};
 ghost use Rattle.rules.specs.Decode.{moduleOf};
@@ -14,6 +15,7 @@ ghost use Rattle.runs.specs.Entries.{Compared};
 ghost use Rattle.runs.specs.Runs.{RunAtIs, SameIs, InPageIs, StandsIs};
 use flattening::ENTRIES;
 use positions::Primitive;
+use state::Machine;
 use terms::Live;
 
 // Of so few primitives, a descent for each is cheaper than writing the terms out.
@@ -80,7 +82,7 @@ fn entries_same(
     spots2: &[u64; ENTRIES],
     many: usize,
 ) -> bool
-    requires { ⌜ (0 < many) × (d + many ≤ 256) ⌝ }
+    requires { ⌜ (0 < many) × (d + many ≤ sizeLimit) ⌝ }
     ensures { λ r. ⌜ Compared (now (f .entry)) (now (subs .entry)) (now (spots .entry)) d (now (subs2 .entry)) (now (spots2 .entry)) many r ⌝ }
 {
     let first = flattening::entry(subs, spots, d);
@@ -239,7 +241,7 @@ pub fn in_page(
     q: &[u8],
     tab: &[u64],
 ) -> bool
-    requires { ⌜ (Table (now f) n k (now tab)) × (length (now p) ≤ 8) × (length (now q) ≤ 8) × (x < 256) ⌝ }
+    requires { ⌜ (Table (now f) n k (now tab)) × (length (now p) ≤ 8) × (length (now q) ≤ 8) × (x < pageBytes) ⌝ }
     ensures { λ r. ⌜ InPageIs (now (f .entry)) u (now (p .entry)) x t (now (q .entry)) r ⌝ }
 {
     let e = positions::extent_at(n, u, tab, f, k);
@@ -247,7 +249,7 @@ pub fn in_page(
     if size == 0 {
         return false;
     }
-    if x / size * size + size > 256 {
+    if x / size * size + size > Machine::PAGE_BYTES as usize {
         return false;
     }
     run_at(f, n, k, u, p, x % size, t, q, tab)
@@ -272,7 +274,7 @@ pub fn stands(
     ensures { λ b. ⌜ StandsIs (now (f .entry)) (r .0) owner u (now (p .entry)) a t (now (q .entry)) b ⌝ }
 {
     let region = r.0;
-    if a >= 16384 {
+    if a >= Machine::MEMORY_BYTES {
         return false;
     }
     if owner == 0 {
@@ -281,5 +283,5 @@ pub fn stands(
     if owner - 1 != region {
         return false;
     }
-    in_page(f, n, k, u, p, (a % 256) as usize, t, q, tab)
+    in_page(f, n, k, u, p, (a % Machine::PAGE_BYTES) as usize, t, q, tab)
 }

@@ -9,6 +9,7 @@ ghost use Rattle.rules.specs.Decode.{moduleOf};
 ghost use Rattle.rules.specs.Verdict.{termTest, structTest};
 ghost use Rattle.terms.specs.Extents.{Terms, Counted};
 ghost use Rattle.sizes.specs.Sizes.{wordLimit, arityOf, fieldTerm, fieldFits, fieldsFit};
+use rules::limits::SIZE_LIMIT;
 
 // The regions of struct `number`, of a file with n terms.
 fn arity(f: &[u8], n: usize, number: usize) -> usize
@@ -44,7 +45,7 @@ fn term_fits(f: &[u8], n: usize, k: usize, t: usize) -> bool
     ensures { λ b. ⌜ b ≡ termTest (moduleOf (now (f .entry))) t ⌝ }
 {
     let e = terms::extent_of_term(f, n, k, t);
-    (e.size <= 256) & counts(f, n, t)
+    (e.size <= SIZE_LIMIT) & counts(f, n, t)
 }
 
 // The first term that refusal 5 finds, or their number.
@@ -96,7 +97,7 @@ fn struct_fits(f: &[u8], n: usize, k: usize, number: usize) -> bool
     ensures { λ b. ⌜ b ≡ structTest (moduleOf (now (f .entry))) number ⌝ }
 {
     let e = terms::extent_of_struct(f, n, k, number);
-    (e.size <= 256) & fields_fit(f, n, number)
+    (e.size <= SIZE_LIMIT) & fields_fit(f, n, number)
 }
 
 // The first struct that refusal 5 finds, or their number.

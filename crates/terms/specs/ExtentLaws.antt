@@ -11,6 +11,7 @@ use lib.ListN.{getD, length-map, List·getD-eq-default}
 use Rattle.words.specs.Bytes.{Bytes, listFrom, listOf}
 use Rattle.words.specs.ByteLaws.{listOf-agree}
 use Rattle.words.specs.Choose.{cond-le, cond-nle, lt-or-le}
+use Rattle.rules.specs.Limits.{sizeLimit}
 use Rattle.rules.specs.File.{recordOf, entryOf}
 use Rattle.rules.specs.Types.{RegionKind, variable, Region, Tree, arg}
 use Rattle.rules.specs.Module.{Module}
@@ -27,45 +28,45 @@ use Rattle.terms.specs.Extents.{Terms, Counted, cap, extentOf, over, plu
 
 -- ---- cap
 
-pub cap-same : (c : ℕ) → c ≤ 256 → cap c ≡ c
+pub cap-same : (c : ℕ) → c ≤ sizeLimit → cap c ≡ c
 unfolding cap
-cap-same c h = cond-le c 257 h
+cap-same c h = cond-le c (suc sizeLimit) h
 
-pub cap-over : (c : ℕ) → 256 < c → cap c ≡ 257
+pub cap-over : (c : ℕ) → sizeLimit < c → cap c ≡ suc sizeLimit
 unfolding cap
-cap-over c h = cond-nle c 257 h
+cap-over c h = cond-nle c (suc sizeLimit) h
 
 cap-plus : (a b : ℕ) → cap (a + b) ≡ cap (cap a + cap b)
-cap-plus a b = ⊎-elim left (λ p. ⊎-elim (right p) (λ q. ap₂ (λ (x y : ℕ). cap (x + y)) (sym (cap-same a p)) (sym (cap-same b q))) (lt-or-le 256 b)) (lt-or-le 256 a)
+cap-plus a b = ⊎-elim left (λ p. ⊎-elim (right p) (λ q. ap₂ (λ (x y : ℕ). cap (x + y)) (sym (cap-same a p)) (sym (cap-same b q))) (lt-or-le sizeLimit b)) (lt-or-le sizeLimit a)
   where
-    left : 256 < a → cap (a + b) ≡ cap (cap a + cap b)
+    left : sizeLimit < a → cap (a + b) ≡ cap (cap a + cap b)
     left h = cap-over (a + b) (omega arith) ∙ sym (cap-over (cap a + cap b) (omega (arith, cap-over a h)))
 
-    right : a ≤ 256 → 256 < b → cap (a + b) ≡ cap (cap a + cap b)
+    right : a ≤ sizeLimit → sizeLimit < b → cap (a + b) ≡ cap (cap a + cap b)
     right p h = cap-over (a + b) (omega arith) ∙ sym (cap-over (cap a + cap b) (omega (arith, cap-over b h)))
 
 cap-times : (n a : ℕ) → cap (n * a) ≡ cap (n * cap a)
 cap-times zero a = ap cap (omega arith)
-cap-times (suc n) a = ⊎-elim big (λ p. ap (λ (x : ℕ). cap (suc n * x)) (sym (cap-same a p))) (lt-or-le 256 a)
+cap-times (suc n) a = ⊎-elim big (λ p. ap (λ (x : ℕ). cap (suc n * x)) (sym (cap-same a p))) (lt-or-le sizeLimit a)
   where
-    big : 256 < a → cap (suc n * a) ≡ cap (suc n * cap a)
-    big h = cap-over (suc n * a) (omega arith) ∙ sym (ap (λ (x : ℕ). cap (suc n * x)) (cap-over a h) ∙ cap-over (suc n * 257) (omega arith))
+    big : sizeLimit < a → cap (suc n * a) ≡ cap (suc n * cap a)
+    big h = cap-over (suc n * a) (omega arith) ∙ sym (ap (λ (x : ℕ). cap (suc n * x)) (cap-over a h) ∙ cap-over (suc n * suc sizeLimit) (omega arith))
 
 -- ---- sums and products
 
-pub plus-over : (d e : Extent) → 256 < d .size + e .size → plus d e ≡ over
+pub plus-over : (d e : Extent) → sizeLimit < d .size + e .size → plus d e ≡ over
 unfolding plus
 plus-over d e h = cond-nle _ _ h
 
-pub plus-fits : (d e : Extent) → d .size + e .size ≤ 256 → plus d e ≡ record { size = d .size + e .size; count = cap (d .count + e .count) }
+pub plus-fits : (d e : Extent) → d .size + e .size ≤ sizeLimit → plus d e ≡ record { size = d .size + e .size; count = cap (d .count + e .count) }
 unfolding plus
 plus-fits d e h = cond-le _ _ h
 
-pub times-over : (n : ℕ) (e : Extent) → 256 < n * e .size → times n e ≡ over
+pub times-over : (n : ℕ) (e : Extent) → sizeLimit < n * e .size → times n e ≡ over
 unfolding times
 times-over n e h = cond-nle _ _ h
 
-pub times-fits : (n : ℕ) (e : Extent) → n * e .size ≤ 256 → times n e ≡ record { size = n * e .size; count = cap (n * e .count) }
+pub times-fits : (n : ℕ) (e : Extent) → n * e .size ≤ sizeLimit → times n e ≡ record { size = n * e .size; count = cap (n * e .count) }
 unfolding times
 times-fits n e h = cond-le _ _ h
 
@@ -77,19 +78,19 @@ module _ {k : RegionKind} where
       (λ h.
       ap (λ (N : Layout k). extentOf N) (cond-le _ _ h)
       ∙ ap (λ (c : ℕ). record { size = L .size + M .size; count = c }) (ap cap (count-packed L M) ∙ cap-plus (count L) (count M)) ∙ sym (cond-le _ _ h))
-      (lt-or-le 256 (L .size + M .size))
+      (lt-or-le sizeLimit (L .size + M .size))
     where
       capped-none : extentOf (none {k = k}) ≡ over
-      capped-none = ap (λ (c : ℕ). record { size = 257; count = c }) (cap-same 0 (omega arith))
+      capped-none = ap (λ (c : ℕ). record { size = suc sizeLimit; count = c }) (cap-same 0 (omega arith))
 
   pub extent-copies : (n : ℕ) (L : Layout k) → extentOf (copies n L) ≡ times n (extentOf L)
   unfolding copies times
   extent-copies n L = ⊎-elim
-      (λ h. ap (λ (N : Layout k). extentOf N) (cond-nle _ _ h) ∙ ap (λ (c : ℕ). record { size = 257; count = c }) (cap-same 0 (omega arith)) ∙ sym (cond-nle _ _ h))
+      (λ h. ap (λ (N : Layout k). extentOf N) (cond-nle _ _ h) ∙ ap (λ (c : ℕ). record { size = suc sizeLimit; count = c }) (cap-same 0 (omega arith)) ∙ sym (cond-nle _ _ h))
       (λ h.
       ap (λ (N : Layout k). extentOf N) (cond-le _ _ h)
       ∙ ap₂ (λ (s c : ℕ). record { size = s; count = c }) (size-copiesOf n L) (ap cap (count-copiesOf n L) ∙ cap-times n (count L)) ∙ sym (cond-le _ _ h))
-      (lt-or-le 256 (n * L .size))
+      (lt-or-le sizeLimit (n * L .size))
 
 pub extent-sub : {j k : RegionKind} (σ : Region j → Region k) (L : Layout j) → extentOf (subLayout σ L) ≡ extentOf L
 unfolding subLayout
@@ -176,21 +177,21 @@ module _ (f : Bytes) (n N : ℕ) where
   so-next i d h p q e r = rw (add-one i, so-more i) (ap₂ plus h (r ∙ ap (termExtent f N) q))
 
   -- once over the limit, over it to the end
-  so-over : (i c : ℕ) → 256 < soFar f n N i .size → soFar f n N (i + suc c) ≡ over
+  so-over : (i c : ℕ) → sizeLimit < soFar f n N i .size → soFar f n N (i + suc c) ≡ over
   so-over i zero h = rw (add-one i, so-more i) (plus-over (soFar f n N i) (termExtent f N (fieldPlace f n N i)) (omega arith))
   so-over i (suc c) h =
       let e : i + suc (suc c) ≡ suc (i + suc c) = omega arith in
-      let s : soFar f n N (i + suc c) .size ≡ 257 = ap (λ (x : Extent). x .size) (so-over i c h) in
+      let s : soFar f n N (i + suc c) .size ≡ suc sizeLimit = ap (λ (x : Extent). x .size) (so-over i c h) in
       rw (e, so-more (i + suc c)) (plus-over (soFar f n N (i + suc c)) (termExtent f N (fieldPlace f n N (i + suc c))) (omega arith))
 
   -- what passes the limit is `over`
-  pub over-is : (d e g : Extent) → g ≡ plus d e → 256 < g .size → g ≡ over
-  over-is d e g h l = ⊎-elim (λ m. h ∙ plus-over d e m) (λ m. absurd (omega (arith, l, ap (λ (x : Extent). x .size) (h ∙ plus-fits d e m)))) (lt-or-le 256 (d .size + e .size))
+  pub over-is : (d e g : Extent) → g ≡ plus d e → sizeLimit < g .size → g ≡ over
+  over-is d e g h l = ⊎-elim (λ m. h ∙ plus-over d e m) (λ m. absurd (omega (arith, l, ap (λ (x : Extent). x .size) (h ∙ plus-fits d e m)))) (lt-or-le sizeLimit (d .size + e .size))
 
   pub so-stop : (i c : ℕ) (g : Extent) → g ≡ soFar f n N i → g ≡ over → i ≤ c → soFar f n N c ≡ over
   so-stop i c g h l m = ⊎-elim
       (λ lt. let e : i + suc (c - suc i) ≡ c = omega arith in
-      let s : soFar f n N i .size ≡ 257 = ap (λ (x : Extent). x .size) (sym h ∙ l) in
+      let s : soFar f n N i .size ≡ suc sizeLimit = ap (λ (x : Extent). x .size) (sym h ∙ l) in
       rw e at (so-over i (c - suc i) (omega arith)))
       (λ le. let e : i ≡ c = omega arith in rw e at (sym h ∙ l))
       (lt-or-le i c)

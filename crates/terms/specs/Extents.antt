@@ -1,5 +1,5 @@
--- Size and number of primitives of a layout, as the code has them: document 01, "Flat types". The number is exact up to 256 and
--- 257 above (only an integer of no bytes, which refusal 4 excludes, lets it pass the size). Assumes nothing.
+-- Size and number of primitives of a layout, as the code has them: document 01, "Flat types". The number is exact up to the limit and
+-- one more above (only an integer of no bytes, which refusal 4 excludes, lets it pass the size). Assumes nothing.
 use mathlib.Core.Path.{_≡_}
 use mathlib.Core.Bool.{cond}
 use mathlib.Core.List.{List}
@@ -43,7 +43,7 @@ unfoldable pub times : ℕ → Extent → Extent
 times n e = cond (leb (n * e .size) sizeLimit) (record { size = n * e .size; count = cap (n * e .count) }) over
 
 abbrev pub Small : Extent → Type 0
-Small e = (e .size ≤ 257) × (e .count ≤ 257)
+Small e = (e .size ≤ suc sizeLimit) × (e .count ≤ suc sizeLimit)
 
 -- ---- of terms and structs
 

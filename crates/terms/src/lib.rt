@@ -2,8 +2,9 @@
 // definitions of `rules`, for all bytes; a term number that names nothing reads as `noTree`. A term's place is one more than its
 // number, and place 0 is what is not there: so the places inside a term are lower, and a walk along a term ends.
 ghost use mathlib.Core.Path.{_≡_};
-ghost use Prim.Native.Nat.{max, _+_, _*_, _<_, _≤_};
+ghost use Prim.Native.Nat.{max, suc, _+_, _*_, _<_, _≤_};
 ghost use lib.ListN.{length};
+ghost use Rattle.rules.specs.Limits.{sizeLimit};
 ghost use Rattle.rules.specs.Decode.{moduleOf};
 ghost use Rattle.rules.specs.Flat.{flat, structFlat};
 ghost use Rattle.words.specs.Decide.{does};
@@ -15,6 +16,7 @@ ghost use Rattle.terms.specs.Compare.{byteUnder};
 ghost use Rattle.terms.specs.Bounds.{bound, boundOf, headBound};
 ghost use Rattle.terms.specs.Readers.{Reads, Inner, formBy};
 use rules::Record;
+use rules::limits::SIZE_LIMIT;
 
 // What a term's record says: inner terms by place, region arguments by how many, and the number that holds them.
 pub enum Head {
@@ -28,7 +30,10 @@ pub enum Head {
     Struct(usize, usize, usize),
 }
 
-// Size in bytes and number of primitives. What has no size has 257 bytes; the number is exact up to 256, and 257 above.
+// The size of what has none: one more than an object may have.
+const NO_SIZE: usize = SIZE_LIMIT + 1;
+
+// Size in bytes and number of primitives. The number is exact up to the limit, and one more above.
 pub struct Extent {
     pub size: usize,
     pub count: usize,
@@ -176,15 +181,15 @@ fn over() -> Extent
     ensures { λ r. ⌜ r ≡ over ⌝ }
 {
     Extent {
-        size: 257,
+        size: NO_SIZE,
         count: 0,
     }
 }
 
 fn cap(c: usize) -> usize
-    ensures { λ r. ⌜ (r ≡ cap c) × (r ≤ 257) ⌝ }
+    ensures { λ r. ⌜ (r ≡ cap c) × (r ≤ suc sizeLimit) ⌝ }
 {
-    if c <= 256 { c } else { 257 }
+    if c <= SIZE_LIMIT { c } else { NO_SIZE }
 }
 
 // One after the other, and n times the same.
@@ -193,7 +198,7 @@ fn plus(d: Extent, e: Extent) -> Extent
     ensures { λ r. ⌜ (r ≡ plus d e) × (Small r) ⌝ }
 {
     let size = d.size + e.size;
-    if size > 256 {
+    if size > SIZE_LIMIT {
         return over();
     }
     Extent {
@@ -207,7 +212,7 @@ fn times(n: usize, e: Extent) -> Extent
     ensures { λ r. ⌜ (r ≡ times n e) × (Small r) ⌝ }
 {
     let size = n * e.size;
-    if size > 256 {
+    if size > SIZE_LIMIT {
         return over();
     }
     Extent {
@@ -250,7 +255,7 @@ pub fn struct_extent(f: &[u8], n: usize, number: usize) -> Extent
         let p = place_of(n, walk::file::entry_of(y, i));
         let e = term_extent(f, n, number, p);
         sum = plus(sum, e);
-        if sum.size > 256 {
+        if sum.size > SIZE_LIMIT {
             return over();
         }
         i += 1;

@@ -17,6 +17,7 @@ use memo::stands_known;
 use objects::home_of;
 use registers::map_of;
 use rules::limits::CALLEES;
+use rules::limits::SIZE_LIMIT;
 use state::Machine;
 use state::total::memory_byte;
 use terms::Live;
@@ -145,7 +146,7 @@ pub fn aim_at(
     to: [u8; 8],
     t: usize,
     last: Aim,
-    memo: &mut [u8; 256],
+    memo: &mut [u8; SIZE_LIMIT],
 ) -> Aim
     requires { ⌜ Known (now f) (now starts) functions ⌝ ∗ ⌜ Table (now f) terms structs (now tab) ⌝ ∗ ⌜ form (moduleOf (now f) .term t) ≡ 2 ⌝ ∗ ⌜ AimIs (now f) (now s) n last (now memo) ⌝ }
     ensures { λ a. ⌜ AimsAt (now (f .entry)) (now (s .entry)) n to t a (now (memo .exit)) ⌝ }
@@ -178,7 +179,7 @@ pub fn pointer_ok(
     t: usize,
     g: Target,
     x: u32,
-    memo: &mut [u8; 256],
+    memo: &mut [u8; SIZE_LIMIT],
 ) -> bool
     requires { ⌜ Table (now f) terms structs (now tab) ⌝ ∗ ⌜ Narrow (now f) ⌝ ∗ ⌜ (TargetIs (now f) (now s) n to t g) × (x < 2 ^ 30) × (Remembers (now f) (g .term) (g .map) (g .run) to (now memo)) ⌝ }
     ensures { λ b. ⌜ (Tells b (PrimitiveAt (now (f .entry)) (now (s .entry)) n to t x)) × (Remembers (now (f .entry)) (g .term) (g .map) (g .run) to (now (memo .exit))) ⌝ }

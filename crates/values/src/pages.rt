@@ -2,7 +2,7 @@
 // the objects of a region are is found once, the primitive at a position and where it leads once for all its pages.
 ghost use mathlib.Core.Path.{_≡_};
 ghost use Prim.Native.Nat.{ℕ, suc, _-_, _*_, _<_, _≤_};
-ghost use Rattle.rules.specs.Limits.{pages, pageBytes};
+ghost use Rattle.rules.specs.Limits.{pages, pageBytes, sizeLimit};
 ghost use Rattle.rules.specs.State.{pageOwner};
 ghost use Rattle.terms.specs.Heads.{placeOf};
 ghost use Rattle.positions.specs.Table.{Table};
@@ -24,6 +24,7 @@ use objects::Home;
 use objects::home_of;
 use registers::map_of;
 use rules::limits::CALLEES;
+use rules::limits::SIZE_LIMIT;
 use state::Machine;
 use terms::form;
 
@@ -61,9 +62,9 @@ fn place_ok(
     d: usize,
     g: Target,
     j: usize,
-    memo: &mut [u8; 256],
+    memo: &mut [u8; SIZE_LIMIT],
 ) -> bool
-    requires { ⌜ Table (now f) terms structs (now tab) ⌝ ∗ ⌜ Narrow (now f) ⌝ ∗ ⌜ (p < pages) × (d ≤ 256) × (size * suc j ≤ pageBytes) × (TargetIs (now f) (now s) n to t g) × (Remembers (now f) (g .term) (g .map) (g .run) to (now memo)) ⌝ }
+    requires { ⌜ Table (now f) terms structs (now tab) ⌝ ∗ ⌜ Narrow (now f) ⌝ ∗ ⌜ (p < pages) × (d ≤ sizeLimit) × (size * suc j ≤ pageBytes) × (TargetIs (now f) (now s) n to t g) × (Remembers (now f) (g .term) (g .map) (g .run) to (now memo)) ⌝ }
     ensures { λ b. ⌜ (Tells b (PlaceOk (now (f .entry)) (now (s .entry)) n p size to t d j)) × (Remembers (now (f .entry)) (g .term) (g .map) (g .run) to (now (memo .exit))) ⌝ }
 {
     let x = Machine::PAGE_BYTES * p + (size * j + d) as u32;
@@ -83,9 +84,9 @@ fn places_ok(
     t: usize,
     d: usize,
     g: Target,
-    memo: &mut [u8; 256],
+    memo: &mut [u8; SIZE_LIMIT],
 ) -> bool
-    requires { ⌜ Table (now f) terms structs (now tab) ⌝ ∗ ⌜ Narrow (now f) ⌝ ∗ ⌜ (p < pages) × (d ≤ 256) × (TargetIs (now f) (now s) n to t g) × (Remembers (now f) (g .term) (g .map) (g .run) to (now memo)) ⌝ }
+    requires { ⌜ Table (now f) terms structs (now tab) ⌝ ∗ ⌜ Narrow (now f) ⌝ ∗ ⌜ (p < pages) × (d ≤ sizeLimit) × (TargetIs (now f) (now s) n to t g) × (Remembers (now f) (g .term) (g .map) (g .run) to (now memo)) ⌝ }
     ensures { λ b. ⌜ (Tells b ((j : ℕ) → j < pageBytes → PlaceOk (now (f .entry)) (now (s .entry)) n p size to t d j)) × (Remembers (now (f .entry)) (g .term) (g .map) (g .run) to (now (memo .exit))) ⌝ }
 {
     let many = places_in(size);
@@ -114,9 +115,9 @@ fn owned_places(
     d: usize,
     g: Target,
     q: u32,
-    memo: &mut [u8; 256],
+    memo: &mut [u8; SIZE_LIMIT],
 ) -> bool
-    requires { ⌜ Table (now f) terms structs (now tab) ⌝ ∗ ⌜ Narrow (now f) ⌝ ∗ ⌜ (q < pages) × (d ≤ 256) × (TargetIs (now f) (now s) n to t g) × (Remembers (now f) (g .term) (g .map) (g .run) to (now memo)) ⌝ }
+    requires { ⌜ Table (now f) terms structs (now tab) ⌝ ∗ ⌜ Narrow (now f) ⌝ ∗ ⌜ (q < pages) × (d ≤ sizeLimit) × (TargetIs (now f) (now s) n to t g) × (Remembers (now f) (g .term) (g .map) (g .run) to (now memo)) ⌝ }
     ensures { λ b. ⌜ (Tells b (OwnedPlaces (now (f .entry)) (now (s .entry)) n owner size to t d q)) × (Remembers (now (f .entry)) (g .term) (g .map) (g .run) to (now (memo .exit))) ⌝ }
 {
     if state::total::owner(s, q) != owner {
@@ -139,9 +140,9 @@ fn all_places(
     t: usize,
     d: usize,
     g: Target,
-    memo: &mut [u8; 256],
+    memo: &mut [u8; SIZE_LIMIT],
 ) -> bool
-    requires { ⌜ Table (now f) terms structs (now tab) ⌝ ∗ ⌜ Narrow (now f) ⌝ ∗ ⌜ (d ≤ 256) × (TargetIs (now f) (now s) n to t g) × (Remembers (now f) (g .term) (g .map) (g .run) to (now memo)) ⌝ }
+    requires { ⌜ Table (now f) terms structs (now tab) ⌝ ∗ ⌜ Narrow (now f) ⌝ ∗ ⌜ (d ≤ sizeLimit) × (TargetIs (now f) (now s) n to t g) × (Remembers (now f) (g .term) (g .map) (g .run) to (now memo)) ⌝ }
     ensures { λ b. ⌜ (Tells b ((q : ℕ) → q < pages → OwnedPlaces (now (f .entry)) (now (s .entry)) n owner size to t d q)) × (Remembers (now (f .entry)) (g .term) (g .map) (g .run) to (now (memo .exit))) ⌝ }
 {
     let mut q = 0;
@@ -189,7 +190,7 @@ fn position_ok(
     o: Objects,
     i: usize,
     last: Aim,
-    memo: &mut [u8; 256],
+    memo: &mut [u8; SIZE_LIMIT],
 ) -> Looked
     requires { ⌜ Known (now f) (now starts) functions ⌝ ∗ ⌜ Table (now f) terms structs (now tab) ⌝ ∗ ⌜ Narrow (now f) ⌝ ∗ ⌜ (p < pages) × (i < o .count) × (ObjectsAre (now f) (now s) n p terms structs o) × (AimIs (now f) (now s) n last (now memo)) ⌝ }
     ensures { λ r. ⌜ (Tells (r .ok) (OwnedPosition (now (f .entry)) (now (s .entry)) n p i)) × (AimIs (now (f .entry)) (now (s .entry)) n (r .aim) (now (memo .exit))) ⌝ }
@@ -256,7 +257,7 @@ fn positions_ok(
     ensures { λ b. ⌜ Tells b ((i : ℕ) → i < o .count → OwnedPosition (now (f .entry)) (now (s .entry)) n p i) ⌝ }
 {
     let many = o.count;
-    let mut memo = [0u8; 256];
+    let mut memo = [0u8; SIZE_LIMIT];
     let mut last = no_aim();
     let mut i = 0;
     while i < many {

@@ -30,6 +30,9 @@ mul-if2 c = let e = div-add-mod' (c .before .before .before .before .before .bef
 add-if2 : tie.Need-add-if2
 add-if2 c = let e = div-add-mod' (c .before .before .before .before .before .before .args .x) (c .before .extent-at .result .size) in let h = c .before .before .before .before .before .before .pre .3 in let s = c .before .extent-at .ensures .1 .0 in omega arith
 
+cast-if2 : tie.Need-cast-if2
+cast-if2 c = search needs
+
 returns-2 : tie.Need-returns-2
 returns-2 c = (page-past _ (c .before .before .before .before .before .before .before .args .x) _ _ (is (c .before .before) variable) (c .before .if1 .left) (c .if2 .taken), page-past _ (c .before .before .before .before .before .before .before .args .x) _ _ (is (c .before .before) live) (c .before .if1 .left) (c .if2 .taken))
 
@@ -48,6 +51,7 @@ in-page-spec =
     (λ c. search needs)
     mul-if2
     add-if2
+    cast-if2
     returns-2
     (λ c. search needs)
     run-at-requires
