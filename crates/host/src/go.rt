@@ -16,12 +16,16 @@ use crate::tables::tables_of;
 use prepare::code::CODE_WORDS;
 use prepare::fill;
 use rules::Verdict;
+use rules::limits::BAD_INPUT;
+use rules::limits::BAD_LENGTH;
+use rules::limits::BAD_STATE;
+use rules::limits::CALLEES;
+use rules::limits::NOT_RUNNING;
 use run::Outcome;
 use run::outcome_of;
 use run::run::run;
 use state::Machine;
 use state::fields::status;
-use walk::limits::CALLEES;
 
 // Going on's answer: refused with document 01's number and place; ended with a value, stopped for a reason, or running, after so many steps.
 pub enum Went {
@@ -95,13 +99,13 @@ fn go_tested(file: &[u8], form: &[u8], s: &mut [u8], o: &mut [u8], budget: u64) 
             go_running(file, t, form, s, o, budget)
         } else {
             Went::Refused {
-                number: 22,
+                number: NOT_RUNNING,
                 place: 0,
             }
         }
     } else {
         Went::Refused {
-            number: 21,
+            number: BAD_STATE,
             place: 0,
         }
     }
@@ -114,7 +118,7 @@ fn go_accepted(file: &[u8], form: &[u8], s: &mut [u8], o: &mut [u8], budget: u64
 {
     if Machine::MOST_FORM < form.len() {
         return Went::Refused {
-            number: 9,
+            number: BAD_INPUT,
             place: 0,
         };
     }
@@ -122,7 +126,7 @@ fn go_accepted(file: &[u8], form: &[u8], s: &mut [u8], o: &mut [u8], budget: u64
         go_tested(file, form, s, o, budget)
     } else {
         Went::Refused {
-            number: 20,
+            number: BAD_LENGTH,
             place: 0,
         }
     }

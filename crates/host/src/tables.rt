@@ -5,8 +5,8 @@ ghost use Rattle.rules.specs.Decode.{moduleOf};
 ghost use Rattle.rules.specs.StateTest.{decPasses};
 ghost use Rattle.rules.specs.Verdict.{verdictOf, IsAccepted};
 ghost use Rattle.host.specs.Ready.{Ready};
-use walk::limits::CALLEES;
-use walk::limits::MOST_TERMS;
+use rules::limits::CALLEES;
+use rules::limits::MOST_TERMS;
 
 pub struct Tables {
     pub terms: usize,

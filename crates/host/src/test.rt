@@ -6,6 +6,8 @@ ghost use Rattle.host.specs.Testing.{testedMeant};
 use crate::tables::passes;
 use crate::tables::tables_of;
 use rules::Verdict;
+use rules::limits::BAD_LENGTH;
+use rules::limits::BAD_STATE;
 use state::Machine;
 
 // The state test's answer: refused with document 01's number and place, or passed.
@@ -21,7 +23,7 @@ fn test_accepted(file: &[u8], s: &[u8]) -> Tested
 {
     if s.len() != Machine::STATE_BYTES {
         return Tested::Refused {
-            number: 20,
+            number: BAD_LENGTH,
             place: 0,
         };
     }
@@ -30,7 +32,7 @@ fn test_accepted(file: &[u8], s: &[u8]) -> Tested
         Tested::Passed
     } else {
         Tested::Refused {
-            number: 21,
+            number: BAD_STATE,
             place: 0,
         }
     }

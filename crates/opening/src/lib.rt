@@ -9,6 +9,8 @@ ghost use Rattle.frames.specs.Entered.{putRegisters, putRegions};
 ghost use Rattle.opening.specs.First.{argumentsOf, itself, firstOf};
 ghost use Rattle.opening.specs.Opening.{OpenedBy};
 use rules::Verdict;
+use rules::limits::BAD_INPUT;
+use rules::limits::BAD_LENGTH;
 use state::LiveRegion;
 use state::Machine;
 use state::RegionVariable;
@@ -69,13 +71,13 @@ fn open_accepted(file: &[u8], arguments: &[u8], s: &mut [u8]) -> Opened
     let params = walk::file::parameters_of(h);
     if arguments.len() != 4 * params {
         return Opened::Refused {
-            number: 9,
+            number: BAD_INPUT,
             place: 0,
         };
     }
     if s.len() != Machine::STATE_BYTES {
         return Opened::Refused {
-            number: 20,
+            number: BAD_LENGTH,
             place: 0,
         };
     }
