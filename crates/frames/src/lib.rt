@@ -9,9 +9,10 @@ ghost use Rattle.rules.specs.Limits.{stateBytes, mostFrames, mostRegisters, mos
 ghost use Rattle.rules.specs.State.{frameFunction, frameRegister, frameMap, written, putFrames, putFrame};
 ghost use Rattle.state.specs.Puts.{after};
 ghost use Rattle.state.specs.NewFrame.{putRegion};
+ghost use Rattle.state.specs.Filling.{putRegisters, putRegions};
 ghost use Rattle.regions.specs.Regions.{lowestIn, filled, numberIn, liveBy, Bounded};
 ghost use Rattle.frames.specs.Packed.{packed};
-ghost use Rattle.frames.specs.Entered.{putRegisters, putRegions, begun, enteredMap, enteredRegisters, Operands};
+ghost use Rattle.frames.specs.Entered.{begun, enteredMap, enteredRegisters, Operands};
 use regions::SET;
 use regions::add_frames;
 use regions::add_region;

@@ -12,6 +12,8 @@ pub mod Independence
 pub mod Marks
 pub mod Fields
 pub mod NewFrame
+pub mod Filling
 pub mod Pages
 pub mod Regions
+pub mod Fresh
 pub mod Opening

@@ -5,7 +5,8 @@ use native.Mathlib.Omega.{arith}
 use lib.ListN.{length}
 use Rattle.rules.specs.State.{frameRegister}
 use Rattle.frames.specs.Packed.{shifted, packed, shifted-none, shifted-more}
-use Rattle.frames.specs.Entered.{putRegisters, registers-none, arguments-more}
+use Rattle.state.specs.Filling.{putRegisters, registers-none}
+use Rattle.frames.specs.Entered.{arguments-more}
 use borrow.Author.Needs.{needs}
 use Rattle.frames.proofs.put_arguments.Statement.{statement}
 use Rattle.frames.proofs.put_arguments.Tie as tie

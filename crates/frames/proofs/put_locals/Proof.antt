@@ -4,7 +4,8 @@ use Prim.Native.Nat.{_-_, _≤_}
 use native.Mathlib.Omega.{arith}
 use lib.ListN.{length}
 use Rattle.regions.specs.Regions.{filled, numberIn, filled-none, filled-more}
-use Rattle.frames.specs.Entered.{putRegions, regions-none, locals-more}
+use Rattle.state.specs.Filling.{putRegions, regions-none}
+use Rattle.frames.specs.Entered.{locals-more}
 use borrow.Author.Needs.{needs}
 use Rattle.frames.proofs.put_locals.Statement.{statement}
 use Rattle.frames.proofs.put_locals.Tie as tie

@@ -5,7 +5,8 @@ use native.Mathlib.Omega.{arith}
 use lib.ListN.{length}
 use Rattle.rules.specs.State.{frameMap}
 use Rattle.frames.specs.Packed.{shifted, packed, shifted-none, shifted-more}
-use Rattle.frames.specs.Entered.{putRegions, regions-none, parameters-more}
+use Rattle.state.specs.Filling.{putRegions, regions-none}
+use Rattle.frames.specs.Entered.{parameters-more}
 use borrow.Author.Needs.{needs}
 use Rattle.frames.proofs.put_parameters.Statement.{statement}
 use Rattle.frames.proofs.put_parameters.Tie as tie

@@ -1,6 +1,5 @@
 -- `opening::open_accepted` meets its contract: rules' order of refusals, and then the first state.
-use mathlib.Core.Path.{refl, _∙_}
-use Rattle.opening.specs.First.{first-of}
+use mathlib.Core.Path.{refl}
 use Rattle.opening.specs.Opening.{params-are, locals-are, params-few, locals-few, open-arguments, open-length, open-opened, opened-refused, opened-made}
 use borrow.Author.Needs.{needs}
 use Rattle.opening.proofs.open_accepted.Statement.{statement}
@@ -24,14 +23,22 @@ returns-2 c = opened-refused refl (open-length _ _ _ (c .before .before .before 
 wide-requires : tie.Need-wide-requires
 wide-requires c κs = search needs
 
-first-state-requires : tie.Need-first-state-requires
-first-state-requires c κs = (c .before .before .if2 .left, params-few _ (c .before .before .before .before .before .before .before .before .before .pre) (params-are _ (c .before .before .before .before .before .head-of .ensures) (c .before .before .before .before .parameters-of .ensures)), c .before .before .before .if1 .left, locals-few _ (c .before .before .before .before .before .before .before .before .before .pre) (locals-are _ (c .before .before .before .before .before .head-of .ensures) (c .wide .ensures .0)))
+fresh-requires : tie.Need-fresh-requires
+fresh-requires c κs =
+    let accepted = c .before .before .before .before .before .before .before .before .before .pre in
+    let params = params-are _ (c .before .before .before .before .before .head-of .ensures) (c .before .before .before .before .parameters-of .ensures) in
+    let locals = locals-are _ (c .before .before .before .before .before .head-of .ensures) (c .wide .ensures .0) in
+    (c .before .before .if2 .left, params-few _ accepted params, c .before .before .before .if1 .left, locals-few _ accepted locals)
 
 same-length : tie.Need-same-length
 same-length c = search needs
 
 returns-3 : tie.Need-returns-3
-returns-3 c = opened-made (c .before .before .first-state .ensures ∙ first-of _ _ (params-are _ (c .before .before .before .before .before .before .before .before .head-of .ensures) (c .before .before .before .before .before .before .before .parameters-of .ensures)) (locals-are _ (c .before .before .before .before .before .before .before .before .head-of .ensures) (c .before .before .before .wide .ensures .0))) (open-opened _ _ _ (c .before .before .before .before .before .before .before .before .before .before .before .before .pre) (params-are _ (c .before .before .before .before .before .before .before .before .head-of .ensures) (c .before .before .before .before .before .before .before .parameters-of .ensures)) (c .before .before .before .before .before .before .if1 .left) (c .before .before .before .before .before .if2 .left))
+returns-3 c =
+    let params = params-are _ (c .before .before .before .before .before .before .before .before .head-of .ensures) (c .before .before .before .before .before .before .before .parameters-of .ensures) in
+    let locals = locals-are _ (c .before .before .before .before .before .before .before .before .head-of .ensures) (c .before .before .before .wide .ensures .0) in
+    opened-made (c .before .before .fresh .ensures _ params locals)
+    (open-opened _ _ _ (c .before .before .before .before .before .before .before .before .before .before .before .before .pre) params (c .before .before .before .before .before .before .if1 .left) (c .before .before .before .before .before .if2 .left))
 
 pub open-accepted-spec : {M : Type 1} → statement M
 open-accepted-spec =
@@ -43,6 +50,6 @@ open-accepted-spec =
     returns
     returns-2
     wide-requires
-    first-state-requires
+    fresh-requires
     same-length
     returns-3)

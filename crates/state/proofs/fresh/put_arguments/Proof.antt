@@ -1,13 +1,13 @@
--- `opening::put_arguments` meets its contract: one after the other.
+-- `state::fresh::put_arguments` meets its contract: one after the other.
 use mathlib.Core.Path.{_≡_}
 use Prim.Native.Nat.{_-_, _≤_}
 use native.Mathlib.Omega.{arith}
 use lib.ListN.{length}
-use Rattle.frames.specs.Entered.{putRegisters, registers-none}
-use Rattle.opening.specs.First.{argumentsOf, arguments-more}
+use Rattle.state.specs.Filling.{putRegisters, registers-none}
+use Rattle.state.specs.Fresh.{argumentsOf, arguments-more}
 use borrow.Author.Needs.{needs}
-use Rattle.opening.proofs.put_arguments.Statement.{statement}
-use Rattle.opening.proofs.put_arguments.Tie as tie
+use Rattle.state.proofs.fresh.put_arguments.Statement.{statement}
+use Rattle.state.proofs.fresh.put_arguments.Tie as tie
 
 abbrev Inv-loop : tie.InvT-loop
 Inv-loop arguments s₀ n i₀ s i = (length s ≡ 24576) × (i ≤ n) × (s ≡ putRegisters 0 (argumentsOf arguments) i s₀)

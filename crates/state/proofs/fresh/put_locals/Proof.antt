@@ -1,13 +1,13 @@
--- `opening::put_locals` meets its contract: one after the other.
+-- `state::fresh::put_locals` meets its contract: one after the other.
 use mathlib.Core.Path.{_≡_}
 use Prim.Native.Nat.{_-_, _≤_}
 use native.Mathlib.Omega.{arith}
 use lib.ListN.{length}
-use Rattle.frames.specs.Entered.{putRegions, regions-none}
-use Rattle.opening.specs.First.{itself, locals-more}
+use Rattle.state.specs.Filling.{putRegions, regions-none}
+use Rattle.state.specs.Fresh.{itself, locals-more}
 use borrow.Author.Needs.{needs}
-use Rattle.opening.proofs.put_locals.Statement.{statement}
-use Rattle.opening.proofs.put_locals.Tie as tie
+use Rattle.state.proofs.fresh.put_locals.Statement.{statement}
+use Rattle.state.proofs.fresh.put_locals.Tie as tie
 
 abbrev Inv-loop : tie.InvT-loop
 Inv-loop s₀ n i₀ s i = (length s ≡ 24576) × (i ≤ n) × (s ≡ putRegions 0 0 itself i s₀)
