@@ -4,6 +4,7 @@ ghost use mathlib.Core.Path.{_≡_};
 ghost use Prim.Native.Nat.{ℕ, _+_, _-_, _%_, _/_, _*_, _^_, _≤_, _<_};
 ghost use lib.Dec.{ltb};
 ghost use Rattle.words.specs.Widths.{IsWidth};
+ghost use Rattle.rules.specs.Limits.{noQuotient};
 ghost use Rattle.rules.specs.Arithmetic.{value, cut, flag, valueIf, leftBy, rightBy, magnitude, nearestBy, negative, biased, operationOf, operated, signExtended};
 ghost use Rattle.arithmetic.specs.Meaning.{computedOf, widthIn, maskIn, Sized};
 use rules::limits::NO_QUOTIENT;
@@ -125,7 +126,7 @@ fn magnitude_of(x: u32) -> u64
 }
 
 fn positive(q: u64) -> Number
-    ensures { λ r. ⌜ computedOf r ≡ valueIf (ltb q negative) 36 q ⌝ }
+    ensures { λ r. ⌜ computedOf r ≡ valueIf (ltb q negative) noQuotient q ⌝ }
 {
     if q < (NEGATIVE as u64) {
         Number::Is(q as u32)
@@ -175,7 +176,7 @@ fn nearest(x: u32, y: u32) -> Number
 }
 
 fn quotient(x: u32, y: u32) -> Number
-    ensures { λ r. ⌜ computedOf r ≡ valueIf (ltb 0 y) 36 (x / y) ⌝ }
+    ensures { λ r. ⌜ computedOf r ≡ valueIf (ltb 0 y) noQuotient (x / y) ⌝ }
 {
     if 0 < y {
         Number::Is(x / y)
@@ -185,7 +186,7 @@ fn quotient(x: u32, y: u32) -> Number
 }
 
 fn remainder(x: u32, y: u32) -> Number
-    ensures { λ r. ⌜ computedOf r ≡ valueIf (ltb 0 y) 36 (x % y) ⌝ }
+    ensures { λ r. ⌜ computedOf r ≡ valueIf (ltb 0 y) noQuotient (x % y) ⌝ }
 {
     if 0 < y {
         Number::Is(x % y)

@@ -55,45 +55,45 @@ abbrev pub partAround : (n a : ℕ) → rules.Part
 partAround n a = record { offset = pagePlace (a / pageBytes) + n * (a % pageBytes / n); size = n }
 
 -- the reader finds nothing, or an object around the address in a state of the right length
-data Reads (s : Bytes) (a : ℕ) : rules.Part → Type 0 where
-  nothing : Reads s a rules.emptyPart
-  object : {n : ℕ} → 0 < n → length s ≡ stateBytes → Reads s a (partAround n a)
+data Finds (s : Bytes) (a : ℕ) : rules.Part → Type 0 where
+  nothing : Finds s a rules.emptyPart
+  object : {n : ℕ} → 0 < n → length s ≡ stateBytes → Finds s a (partAround n a)
 
-reads-in : (m : Module) (v : View) (s : Bytes) (a x : ℕ) → length s ≡ stateBytes → Reads s a (rules.objectIn m v a x)
+finds-in : (m : Module) (v : View) (s : Bytes) (a x : ℕ) → length s ≡ stateBytes → Finds s a (rules.objectIn m v a x)
 unfolding rules.objectIn
-reads-in m v s a zero l = nothing
-reads-in m v s a (suc r) l = go (size m (typeOf m (v .fn) (v .map) (v .frames) r))
+finds-in m v s a zero l = nothing
+finds-in m v s a (suc r) l = go (size m (typeOf m (v .fn) (v .map) (v .frames) r))
   where
-    found : (n : ℕ) (b : Bool) → ltb 0 n && leb (n * suc (a % pageBytes / n)) pageBytes ≡ b → Reads s a (cond b (partAround n a) rules.emptyPart)
+    found : (n : ℕ) (b : Bool) → ltb 0 n && leb (n * suc (a % pageBytes / n)) pageBytes ≡ b → Finds s a (cond b (partAround n a) rules.emptyPart)
     found n true e = object (ltb-true 0 n (both (ltb 0 n) (leb (n * suc (a % pageBytes / n)) pageBytes) e .0)) l
     found n false e = nothing
 
-    go : (n : ℕ) → Reads s a (cond (ltb 0 n && leb (n * suc (a % pageBytes / n)) pageBytes) (partAround n a) rules.emptyPart)
+    go : (n : ℕ) → Finds s a (cond (ltb 0 n && leb (n * suc (a % pageBytes / n)) pageBytes) (partAround n a) rules.emptyPart)
     go n = found n (ltb 0 n && leb (n * suc (a % pageBytes / n)) pageBytes) refl
 
-object-reads : (f s : Bytes) (a : ℕ) → Reads s a (rules.objectOf f s a)
+object-finds : (f s : Bytes) (a : ℕ) → Finds s a (rules.objectOf f s a)
 unfolding rules.objectOf
-object-reads f s a = go (verdictOf f) (does (decPasses (moduleOf f) s)) refl
+object-finds f s a = go (verdictOf f) (does (decPasses (moduleOf f) s)) refl
   where
     go : (v : Verdict) (b : Bool) → does (decPasses (moduleOf f) s) ≡ b
-        → Reads s a (rules.onVerdict (λ n p. rules.emptyPart) v (cond b (rules.objectIn (moduleOf f) (view s) a (view s .owner (a / pageBytes))) rules.emptyPart))
-    go (verdicts.Accepted t n g i) true e = reads-in (moduleOf f) (view s) s a (view s .owner (a / pageBytes)) (does-true (decPasses (moduleOf f) s) e .size)
+        → Finds s a (rules.onVerdict (λ n p. rules.emptyPart) v (cond b (rules.objectIn (moduleOf f) (view s) a (view s .owner (a / pageBytes))) rules.emptyPart))
+    go (verdicts.Accepted t n g i) true e = finds-in (moduleOf f) (view s) s a (view s .owner (a / pageBytes)) (does-true (decPasses (moduleOf f) s) e .size)
     go (verdicts.Accepted t n g i) false e = nothing
     go (verdicts.Refused n p) b e = nothing
 
-reads-empty : {s : Bytes} {a : ℕ} {p : rules.Part} → Reads s a p → p .size ≡ 0 → p .offset ≡ 0
-reads-empty nothing z = refl
-reads-empty (object h l) z = absurd (omega arith)
+finds-empty : {s : Bytes} {a : ℕ} {p : rules.Part} → Finds s a p → p .size ≡ 0 → p .offset ≡ 0
+finds-empty nothing z = refl
+finds-empty (object h l) z = absurd (omega arith)
 
-reads-fits : {s : Bytes} {a : ℕ} {p : rules.Part} → Reads s a p → (0 < p .size → p .offset + p .size ≤ stateBytes) → (p .offset + p .size ≤ length s) × (p .offset + p .size ≤ stateBytes)
-reads-fits nothing i = (omega arith, omega arith)
-reads-fits (object h l) i = let j = i h in (omega arith, j)
+finds-fits : {s : Bytes} {a : ℕ} {p : rules.Part} → Finds s a p → (0 < p .size → p .offset + p .size ≤ stateBytes) → (p .offset + p .size ≤ length s) × (p .offset + p .size ≤ stateBytes)
+finds-fits nothing i = (omega arith, omega arith)
+finds-fits (object h l) i = let j = i h in (omega arith, j)
 
 -- its numbers follow from its size
-reads-numbers : {s : Bytes} {a : ℕ} {p : rules.Part} → Reads s a p → rules.partNumbers (partAround (p .size) a) ≡ rules.partNumbers p
+finds-numbers : {s : Bytes} {a : ℕ} {p : rules.Part} → Finds s a p → rules.partNumbers (partAround (p .size) a) ≡ rules.partNumbers p
 unfolding rules.partNumbers
-reads-numbers nothing = refl
-reads-numbers (object h l) = refl
+finds-numbers nothing = refl
+finds-numbers (object h l) = refl
 
 -- ---- the part itself
 
@@ -108,7 +108,7 @@ pub record IsPartOf (r s : RefT Bytes) (p : rules.Part) : Type 0 where
 
 -- it lies in the lent state, so that its bytes are as many as its size says
 object-fits : (f s : Bytes) (a : ℕ) → (rules.objectOf f s a .offset + rules.objectOf f s a .size ≤ length s) × (rules.objectOf f s a .offset + rules.objectOf f s a .size ≤ stateBytes)
-object-fits f s a = reads-fits (object-reads f s a) (λ h. object-inside f s a h .end)
+object-fits f s a = finds-fits (object-finds f s a) (λ h. object-inside f s a h .end)
 
 object-bytes : (f s : Bytes) (a : ℕ) → length (bytesOf (rules.objectOf f s a) s) ≡ rules.objectOf f s a .size
 object-bytes f s a = simp (length-take, length-drop) (omega (arith, object-fits f s a))
@@ -117,7 +117,7 @@ object-bytes f s a = simp (length-take, length-drop) (omega (arith, object-fits 
 pub object-numbers : (f : Bytes) {r s : RefT Bytes} (a : ℕ) → IsPartOf r s (rules.objectOf f (s .now) a)
     → rules.partNumbers (partAround (length (r .now)) a) ≡ rules.partNumbers (rules.objectOf f (s .now) a)
 object-numbers f {r} {s} a h =
-    ap (λ (n : ℕ). rules.partNumbers (partAround n a)) (ap length (h .bytes) ∙ object-bytes f (s .now) a) ∙ reads-numbers (object-reads f (s .now) a)
+    ap (λ (n : ℕ). rules.partNumbers (partAround n a)) (ap length (h .bytes) ∙ object-bytes f (s .now) a) ∙ finds-numbers (object-finds f (s .now) a)
 
 -- ---- as the code goes
 
@@ -126,7 +126,7 @@ part-fits f s a e = subst (λ (x : rules.Part). (x .offset + x .size ≤ length 
 
 -- an empty part starts where the state does
 pub part-starts : (f s : Bytes) (a : ℕ) {p : Part} → partMeant p ≡ rules.objectOf f s a → p .size ≡ 0 → p .offset ≡ 0
-part-starts f s a e = subst (λ (x : rules.Part). x .size ≡ 0 → x .offset ≡ 0) (sym e) (reads-empty (object-reads f s a))
+part-starts f s a e = subst (λ (x : rules.Part). x .size ≡ 0 → x .offset ≡ 0) (sym e) (finds-empty (object-finds f s a))
 
 -- the part from byte i up to byte j of the state, where these are the answer's
 pub part-lies : (f : Bytes) {r s : RefT Bytes} (a : ℕ) {p : Part} (i j : ℕ) → partMeant p ≡ rules.objectOf f (s .now) a

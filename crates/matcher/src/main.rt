@@ -7,15 +7,18 @@ ghost use lib.ListN.{length};
 ghost use Rattle.io.specs.Counts.{Counts};
 use libc::STDOUT_FILENO;
 use report::REPORT_BYTES;
+use rules::limits::BLOCK_BYTES;
+use rules::limits::MOST_BLOCKS;
+use state::Machine;
 
 // One byte more than a module or a form may have: of a longer one no more is needed (`enough` in report's specs/Enough.antt).
-const FILE_BUFFER: usize = 32769;
+const FILE_BUFFER: usize = MOST_BLOCKS * BLOCK_BYTES + 1;
 
-const FORM_BUFFER: usize = 4097;
+const FORM_BUFFER: usize = Machine::MOST_FORM + 1;
 
-// How many bytes were read, and whether that is all: the whole file, or a full buffer. Of a full buffer it is stated. That a file ends
-// where reading on gives nothing is left free: by its contract C's `read` answers a count within the buffer, and which bytes a file has no
-// contract can say.
+// How many bytes were read, and whether that is all: the whole file, or a full buffer. Of a full buffer it is stated. Of a shorter reading
+// it is free, and a body that always says true would meet the contract: C's `read` promises only a count within the buffer, and no
+// contract can say where a file ends.
 struct Got {
     count: usize,
     whole: bool,

@@ -1,9 +1,8 @@
-// An opened module: a view over the lent file with its table starts, as a struct. Few thin readers, each over a covered function on the
-// slice and the tables; `head_of` serves callers that hold no such struct, as opening does.
+// An opened module: a view over the lent file with its table starts, as a struct. Its reader stands over a covered function on the slice
+// and the tables; `head_of` serves callers that hold no such struct, as opening does.
 ghost use mathlib.Core.Path.{_≡_};
 ghost use Rattle.rules.specs.Walk.{whole};
 ghost use Rattle.rules.specs.Records.{headOf};
-ghost use Rattle.rules.specs.Decode.{moduleOf};
 ghost use Rattle.walk.specs.Tables.{tablesOf};
 use rules::Record;
 use walk::tables::Tables;
@@ -32,21 +31,6 @@ fn head_in(file: &[u8], tables: Tables, g: u8) -> Record
 }
 
 impl<'a> Module<'a> {
-    // The lent file.
-    pub fn file(self) -> &'a [u8]
-        ensures { λ s. ⌜ s ≡ self .entry .file ⌝ }
-    {
-        self.file
-    }
-
-    // The number of functions.
-    pub fn functions(self) -> usize
-        requires { ⌜ self .tables ≡ tablesOf (now (self .file)) ⌝ }
-        ensures { λ n. ⌜ n ≡ moduleOf (now (self .entry .file)) .functions ⌝ }
-    {
-        self.tables.walk.functions
-    }
-
     // The record 7 of function g.
     pub fn head(self, g: u8) -> Record
         requires { ⌜ self .tables ≡ tablesOf (now (self .file)) ⌝ }

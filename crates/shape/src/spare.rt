@@ -14,13 +14,6 @@ use state::places::function_place;
 use state::places::map_place;
 use state::places::register_place;
 
-// Where the spare bytes of the header, of a frame and behind the frames start.
-const HEADER_END: usize = 8;
-
-const SPARE_IN: usize = 122;
-
-const STACK_END: usize = 4224;
-
 // The bytes from .. to - 1 are zero, of those that there are. (No byte ends the loop, so that many are compared at once.)
 fn zero_in(s: &[u8], from: usize, to: usize) -> bool
     requires { ⌜ to ≤ length (now s) ⌝ }
@@ -58,7 +51,7 @@ fn used_spare(f: &[u8], starts: &[usize; CALLEES], functions: usize, s: &[u8], k
     let at = frame_place(k);
     let registers = zero(s, register_place(k, c), map_place(k, 0));
     let map = zero(s, map_place(k, m), function_place(k));
-    let last = zero(s, at + SPARE_IN, at + Machine::FRAME_BYTES);
+    let last = zero(s, at + Machine::SPARE_IN, at + Machine::FRAME_BYTES);
     registers & (map & last)
 }
 
@@ -101,8 +94,8 @@ pub fn spare_ok(f: &[u8], starts: &[usize; CALLEES], functions: usize, s: &[u8])
     ensures { λ b. ⌜ Tells b (SpareShape (now (f .entry)) (now (s .entry))) ⌝ }
 {
     let n = words::wide(state::total::frames(s));
-    let header = zero(s, HEADER_END, Machine::OWNERS_AT);
-    let stack = zero(s, STACK_END, Machine::MEMORY_AT);
+    let header = zero(s, Machine::HEADER_END, Machine::OWNERS_AT);
+    let stack = zero(s, Machine::STACK_END, Machine::MEMORY_AT);
     let each = all_frames(f, starts, functions, s, n);
     (header & stack) & each
 }

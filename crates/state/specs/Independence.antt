@@ -1,4 +1,4 @@
--- The byte facts of a safe step (Claim): which effect it is depends on no page byte; what it leaves below the pages depends on the page
+-- The byte facts of a safe step (SafeStep): which effect it is depends on no page byte; what it leaves below the pages depends on the page
 -- bytes that it reads only; and it changes no page byte but a store's and a granted page's. Assumes nothing.
 use mathlib.Core.Path.{_≡_, refl, sym, ap, _∙_}
 use mathlib.Core.Bool.{cond}

@@ -12,7 +12,7 @@ use crate::fields::put_register;
 use words::word_at;
 
 // Parameter i of function 0 is the number in the bytes from 4 i on.
-pub fn put_arguments(arguments: &[u8], s: &mut [u8], n: usize)
+pub fn first_arguments(arguments: &[u8], s: &mut [u8], n: usize)
     requires { ⌜ (length (now s) ≡ stateBytes) × (n ≤ mostEntries) × (length (now arguments) ≡ 4 * n) ⌝ }
     ensures { λ _. ⌜ now (s .exit) ≡ putRegisters 0 (argumentsOf (now (arguments .entry))) n (now (s .entry)) ⌝ }
 {
@@ -25,7 +25,7 @@ pub fn put_arguments(arguments: &[u8], s: &mut [u8], n: usize)
 }
 
 // Local region i of the first frame is live region i: no other is live.
-pub fn put_locals(s: &mut [u8], n: u32)
+pub fn first_regions(s: &mut [u8], n: u32)
     requires { ⌜ (length (now s) ≡ stateBytes) × (n ≤ mostRegions) ⌝ }
     ensures { λ _. ⌜ now (s .exit) ≡ putRegions 0 0 itself n (now (s .entry)) ⌝ }
 {

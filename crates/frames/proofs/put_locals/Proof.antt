@@ -3,6 +3,7 @@ use mathlib.Core.Path.{_≡_, refl}
 use Prim.Native.Nat.{_-_, _≤_}
 use native.Mathlib.Omega.{arith}
 use lib.ListN.{length}
+use Rattle.rules.specs.Limits.{stateBytes}
 use Rattle.regions.specs.Regions.{filled, numberIn, filled-none, filled-more}
 use Rattle.state.specs.Filling.{putRegions, regions-none}
 use Rattle.frames.specs.Entered.{locals-more}
@@ -11,7 +12,7 @@ use Rattle.frames.proofs.put_locals.Statement.{statement}
 use Rattle.frames.proofs.put_locals.Tie as tie
 
 abbrev Inv-loop : tie.InvT-loop
-Inv-loop a₀ n s₀ t lo m i₀ a s i = (length s ≡ 24576) × (i ≤ m) × (a ≡ filled a₀ n i) × (s ≡ putRegions t lo (numberIn a₀ n) i s₀)
+Inv-loop a₀ n s₀ t lo m i₀ a s i = (length s ≡ stateBytes) × (i ≤ m) × (a ≡ filled a₀ n i) × (s ≡ putRegions t lo (numberIn a₀ n) i s₀)
 
 abbrev μ-loop : tie.MeasureT-loop
 μ-loop a₀ n s₀ t lo m i₀ a s i = m - i

@@ -3,6 +3,7 @@ use mathlib.Core.Path.{_≡_}
 use Prim.Native.Nat.{_-_, _≤_}
 use native.Mathlib.Omega.{arith}
 use lib.ListN.{length}
+use Rattle.rules.specs.Limits.{stateBytes}
 use Rattle.rules.specs.State.{frameMap}
 use Rattle.frames.specs.Packed.{shifted, packed, shifted-none, shifted-more}
 use Rattle.state.specs.Filling.{putRegions, regions-none}
@@ -12,7 +13,7 @@ use Rattle.frames.proofs.put_parameters.Statement.{statement}
 use Rattle.frames.proofs.put_parameters.Tie as tie
 
 abbrev Inv-loop : tie.InvT-loop
-Inv-loop s₀ k t rs n m₀ i₀ s m i = (length s ≡ 24576) × (i ≤ n) × (m ≡ shifted rs i) × (s ≡ putRegions t 0 (λ j. frameMap s₀ k (packed rs j)) i s₀)
+Inv-loop s₀ k t rs n m₀ i₀ s m i = (length s ≡ stateBytes) × (i ≤ n) × (m ≡ shifted rs i) × (s ≡ putRegions t 0 (λ j. frameMap s₀ k (packed rs j)) i s₀)
 
 abbrev μ-loop : tie.MeasureT-loop
 μ-loop s₀ k t rs n m₀ i₀ s m i = n - i

@@ -3,6 +3,7 @@ use mathlib.Core.Path.{_≡_}
 use Prim.Native.Nat.{_-_, _≤_}
 use native.Mathlib.Omega.{arith}
 use lib.ListN.{length}
+use Rattle.rules.specs.Limits.{stateBytes}
 use Rattle.pages.specs.Known.{Used}
 use Rattle.returns.specs.Left.{closedFrom, from-none, from-more}
 use borrow.Author.Needs.{needs}
@@ -10,7 +11,7 @@ use Rattle.returns.proofs.close_four.Statement.{statement}
 use Rattle.returns.proofs.close_four.Tie as tie
 
 abbrev Inv-loop : tie.InvT-loop
-Inv-loop a s₀ known₀ p i₀ s known i = (length s ≡ 24576) × (i ≤ 4) × (s ≡ closedFrom a p i s₀) × Used known s
+Inv-loop a s₀ known₀ p i₀ s known i = (length s ≡ stateBytes) × (i ≤ 4) × (s ≡ closedFrom a p i s₀) × Used known s
 
 abbrev μ-loop : tie.MeasureT-loop
 μ-loop a s₀ known₀ p i₀ s known i = 4 - i

@@ -3,6 +3,7 @@ use mathlib.Core.Path.{_≡_}
 use Prim.Native.Nat.{_+_, _*_, _-_, _≤_}
 use native.Mathlib.Omega.{arith}
 use lib.ListN.{length}
+use Rattle.rules.specs.Limits.{stateBytes}
 use Rattle.rules.specs.State.{written}
 use Rattle.pages.specs.Known.{Used}
 use Rattle.returns.specs.Left.{closingBy, ownedIn, closing-start, from-closing}
@@ -11,7 +12,7 @@ use Rattle.returns.proofs.close_pages.Statement.{statement}
 use Rattle.returns.proofs.close_pages.Tie as tie
 
 abbrev Inv-loop : tie.InvT-loop
-Inv-loop a s₀ known₀ i₀ s known i = (length s ≡ 24576) × (i ≤ 16) × (s ≡ written (closingBy (ownedIn a s₀) (4 * i)) s₀) × Used known s
+Inv-loop a s₀ known₀ i₀ s known i = (length s ≡ stateBytes) × (i ≤ 16) × (s ≡ written (closingBy (ownedIn a s₀) (4 * i)) s₀) × Used known s
 
 abbrev μ-loop : tie.MeasureT-loop
 μ-loop a s₀ known₀ i₀ s known i = 16 - i

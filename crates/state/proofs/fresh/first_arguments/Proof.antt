@@ -1,16 +1,17 @@
--- `state::fresh::put_arguments` meets its contract: one after the other.
+-- `state::fresh::first_arguments` meets its contract: one after the other.
 use mathlib.Core.Path.{_≡_}
 use Prim.Native.Nat.{_-_, _≤_}
 use native.Mathlib.Omega.{arith}
 use lib.ListN.{length}
+use Rattle.rules.specs.Limits.{stateBytes}
 use Rattle.state.specs.Filling.{putRegisters, registers-none}
 use Rattle.state.specs.Fresh.{argumentsOf, arguments-more}
 use borrow.Author.Needs.{needs}
-use Rattle.state.proofs.fresh.put_arguments.Statement.{statement}
-use Rattle.state.proofs.fresh.put_arguments.Tie as tie
+use Rattle.state.proofs.fresh.first_arguments.Statement.{statement}
+use Rattle.state.proofs.fresh.first_arguments.Tie as tie
 
 abbrev Inv-loop : tie.InvT-loop
-Inv-loop arguments s₀ n i₀ s i = (length s ≡ 24576) × (i ≤ n) × (s ≡ putRegisters 0 (argumentsOf arguments) i s₀)
+Inv-loop arguments s₀ n i₀ s i = (length s ≡ stateBytes) × (i ≤ n) × (s ≡ putRegisters 0 (argumentsOf arguments) i s₀)
 
 abbrev μ-loop : tie.MeasureT-loop
 μ-loop arguments s₀ n i₀ s i = n - i
@@ -45,8 +46,8 @@ same-length c = omega arith
 returns : tie.Need-returns Inv-loop μ-loop
 returns c = let e : c .before .loop .i ≡ c .before .before .before .before .args .n = omega arith in rw e at (c .before .loop .inv .2)
 
-pub put-arguments-spec : {M : Type 1} → statement M
-put-arguments-spec =
+pub first-arguments-spec : {M : Type 1} → statement M
+first-arguments-spec =
     tie.close
     (tie.spec
     Inv-loop

@@ -1,16 +1,17 @@
--- `state::fresh::put_locals` meets its contract: one after the other.
+-- `state::fresh::first_regions` meets its contract: one after the other.
 use mathlib.Core.Path.{_≡_}
 use Prim.Native.Nat.{_-_, _≤_}
 use native.Mathlib.Omega.{arith}
 use lib.ListN.{length}
+use Rattle.rules.specs.Limits.{stateBytes}
 use Rattle.state.specs.Filling.{putRegions, regions-none}
 use Rattle.state.specs.Fresh.{itself, locals-more}
 use borrow.Author.Needs.{needs}
-use Rattle.state.proofs.fresh.put_locals.Statement.{statement}
-use Rattle.state.proofs.fresh.put_locals.Tie as tie
+use Rattle.state.proofs.fresh.first_regions.Statement.{statement}
+use Rattle.state.proofs.fresh.first_regions.Tie as tie
 
 abbrev Inv-loop : tie.InvT-loop
-Inv-loop s₀ n i₀ s i = (length s ≡ 24576) × (i ≤ n) × (s ≡ putRegions 0 0 itself i s₀)
+Inv-loop s₀ n i₀ s i = (length s ≡ stateBytes) × (i ≤ n) × (s ≡ putRegions 0 0 itself i s₀)
 
 abbrev μ-loop : tie.MeasureT-loop
 μ-loop s₀ n i₀ s i = n - i
@@ -39,8 +40,8 @@ same-length c = omega arith
 returns : tie.Need-returns Inv-loop μ-loop
 returns c = let e : c .before .loop .i ≡ c .before .before .before .args .n = omega arith in rw e at (c .before .loop .inv .2)
 
-pub put-locals-spec : {M : Type 1} → statement M
-put-locals-spec =
+pub first-regions-spec : {M : Type 1} → statement M
+first-regions-spec =
     tie.close
     (tie.spec
     Inv-loop
