@@ -1,5 +1,6 @@
 // The numbers of document 01 that the code shares, each once: those of the module file, of refusals and of stops. What the definitions
-// name has its name of specs/Limits.antt and specs/File.antt here. The machine's own, pages, frames, sizes and the state's layout, are constants of state's Machine.
+// name has its name of specs/Limits.antt and specs/File.antt here. The machine's own, pages, frames, sizes and the state's layout, are
+// constants of state's Machine.
 
 // ---- the module file
 
