@@ -12,7 +12,8 @@ use Rattle.rules.specs.Limits.{pages}
 use Rattle.rules.specs.Module.{Module}
 use Rattle.rules.specs.Decode.{moduleOf}
 use Rattle.rules.specs.State.{view}
-use Rattle.rules.specs.Step.{grantedBy, handedBackBy}
+use Rattle.rules.specs.Step.{handedBackBy}
+use Rattle.rules.specs.Footprint.{footprint}
 use Rattle.rules.specs.Run.{Step, stateAfter, outputAfter, Trace}
 use Rattle.rules.specs.Host.{Outcome, Went, refused, went, opened, passed, goOf, traceOf, openOf, testOf, leftState}
 
@@ -84,7 +85,7 @@ owned s = ownedBelow (view s .owner) pages
 -- pages granted and handed back in a list of steps
 unfoldable pub granted : List Step → ℕ
 granted [] = 0
-granted (t ∷ ts) = grantedBy (t .effect) + granted ts
+granted (t ∷ ts) = footprint (t .effect) .grants + granted ts
 
 unfoldable pub handedBack : Module → List Step → ℕ
 handedBack m [] = 0

@@ -1,4 +1,4 @@
--- Document 01's base, in its order: what must be believed.
+-- Document 01's base with P1 of document 02, in its order: what must be believed.
 pub mod Limits
 -- the module file and its rules
 pub mod Stages
@@ -20,6 +20,7 @@ pub mod Heap
 pub mod Arithmetic
 pub mod Step
 pub mod Writes
+pub mod Footprint
 pub mod Run
 pub mod StateTest
 pub mod Host
@@ -36,3 +37,4 @@ pub mod CasesStep
 pub mod CasesTest
 pub mod Cases
 pub mod CasesMachine
+pub mod CasesObjects

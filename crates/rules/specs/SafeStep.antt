@@ -10,7 +10,7 @@ use native.Mathlib.Decide.{decLt, decLe}
 use lib.ListN.{length}
 use Rattle.words.specs.Bytes.{Bytes, byteAt}
 use Rattle.words.specs.Decide.{does, mapDec, decBoth, decEither}
-use Rattle.rules.specs.Limits.{pageBytes, memoryAt, memoryBytes}
+use Rattle.rules.specs.Limits.{pages, pageBytes, memoryAt, memoryBytes}
 use Rattle.rules.specs.Types.{variable, live, Variable, Tree, ptr, width}
 use Rattle.rules.specs.Module.{Module, regions}
 use Rattle.rules.specs.Flat.{Placed, at, Has, here, there, flat, size}
@@ -18,7 +18,8 @@ use Rattle.rules.specs.Typing.{_⊢_∶_}
 use Rattle.rules.specs.Decision.{decReg, withPtr}
 use Rattle.rules.specs.State.{View, view, memoryPlace, memoryNumber}
 use Rattle.rules.specs.Heap.{close, Live, decLive, typeOf, heapTyping, Stands, decStands, Value}
-use Rattle.rules.specs.Step.{Effect, assign, fetch, save, takePlace, grantPage, freePlace, goTo, emit, push, pop, finish, stop, stuck, effectOf}
+use Rattle.rules.specs.Step.{Effect, fetch, save, takePlace, grantPage, stop, stuck, effectOf}
+use Rattle.rules.specs.Footprint.{footprint, Within}
 use Rattle.rules.specs.Writes.{applyState}
 use Rattle.rules.specs.Run.{Step, stateAfter}
 use Rattle.rules.specs.StateTest.{Listed, Passes}
@@ -101,19 +102,9 @@ strayFrom m v k b x (suc w) = strayFrom m v k b x w + cond (does (decInValue m v
 
 -- the bytes that an effect touches by a load or a store outside the value that its pointer names
 abbrev pub strayBy : Module → View → ℕ → Effect → ℕ
-strayBy m v k (assign a x) = 0
-strayBy m v k (fetch b a x w) = strayFrom m v k b x w
-strayBy m v k (save b x w y) = strayFrom m v k b x w
-strayBy m v k (takePlace p j a x) = 0
-strayBy m v k (grantPage p r a) = 0
-strayBy m v k (freePlace p j) = 0
-strayBy m v k (goTo d) = 0
-strayBy m v k (emit x) = 0
-strayBy m v k (push g μ ρ) = 0
-strayBy m v k (pop c a x) = 0
-strayBy m v k (finish x) = 0
-strayBy m v k (stop n) = 0
-strayBy m v k stuck = 0
+strayBy m v k e =
+    let f = footprint e in
+    strayFrom m v k (f .through) (f .loads .from) (f .loads .bytes) + strayFrom m v k (f .through) (f .stores .from) (f .stores .bytes)
 
 -- "The number of bytes that its loads and stores touch outside the value their pointer's type names, whole inside one object, used
 -- or free, of a live region in scope"
@@ -136,37 +127,46 @@ pub record SameButPages (s t : Bytes) : Type 0 where
   pub lengths : length s ≡ length t
   pub bytes : (i : ℕ) → i < memoryAt → byteAt s i ≡ byteAt t i
 
--- the page bytes that an effect reads
+-- the page bytes that an effect reads, and those that it may change
 abbrev pub Reads : Effect → ℕ → Type 0
-Reads (assign a x) i = ⊥
-Reads (fetch b a x w) i = (x ≤ i) × (i < x + w)
-Reads (save b x w y) i = ⊥
-Reads (takePlace p j a x) i = ⊥
-Reads (grantPage p r a) i = ⊥
-Reads (freePlace p j) i = ⊥
-Reads (goTo d) i = ⊥
-Reads (emit x) i = ⊥
-Reads (push g μ ρ) i = ⊥
-Reads (pop c a x) i = ⊥
-Reads (finish x) i = ⊥
-Reads (stop n) i = ⊥
-Reads stuck i = ⊥
+Reads e i = Within (footprint e .loads) i
 
--- the page bytes that an effect may change: a store's, and a granted page
 abbrev pub Changes : Effect → ℕ → Type 0
-Changes (assign a x) i = ⊥
-Changes (fetch b a x w) i = ⊥
-Changes (save b x w y) i = (x ≤ i) × (i < x + w)
-Changes (takePlace p j a x) i = ⊥
-Changes (grantPage p r a) i = i / pageBytes ≡ p
-Changes (freePlace p j) i = ⊥
-Changes (goTo d) i = ⊥
-Changes (emit x) i = ⊥
-Changes (push g μ ρ) i = ⊥
-Changes (pop c a x) i = ⊥
-Changes (finish x) i = ⊥
-Changes (stop n) i = ⊥
-Changes stuck i = ⊥
+Changes e i = Within (footprint e .stores) i ⊎ Within (footprint e .clears) i
+
+-- ---- document 02, P1: free and used objects
+
+-- how many bytes a place of a page has, by the page's owner: those of its region's objects; a page without owner is one place, free as
+-- a whole
+abbrev pub placeBytes : Module → View → (owner : ℕ) → ℕ
+placeBytes m v zero = pageBytes
+placeBytes m v (suc r) = size m (typeOf m (v .fn) (v .map) (v .frames) r)
+
+-- Address i lies in place j of page p.
+pub record InPlace (m : Module) (v : View) (p j i : ℕ) : Type 0 where
+  pub page : p < pages
+  pub inside : InObject i p j (placeBytes m v (v .owner p))
+
+-- An effect hands out that very place, or grants its page.
+pub data HandsOut (e : Effect) (p j : ℕ) : Type 0 where
+  place : (n a : ℕ) → e ≡ takePlace p j n a → HandsOut e p j
+  page : (r a : ℕ) → e ≡ grantPage p r a → HandsOut e p j
+
+-- the page byte at address i is another after a step
+abbrev pub Differs : Module → Step → ℕ → Type 0
+Differs m t i = byteAt (stateAfter m t) (memoryPlace i) ≢ byteAt (t .state) (memoryPlace i)
+
+-- "An object handed out by kind 27 is now all zeros", in whichever way it got its place
+abbrev pub NewZero : Module → Step → Type 0
+NewZero m t = (p j i : ℕ) → InPlace m (view (t .state)) p j i → HandsOut (t .effect) p j → byteAt (stateAfter m t) (memoryPlace i) ≡ 0
+
+-- "a step changes a free object's bytes only by a store into it, by handing it out or by granting its page"
+abbrev pub FreeKept : Module → Step → Type 0
+FreeKept m t = (p j i : ℕ) → InPlace m (view (t .state)) p j i → view (t .state) .mark p j ≡ 0 → Differs m t i → Within (footprint (t .effect) .stores) i ⊎ HandsOut (t .effect) p j
+
+-- and a used object's only by a store into it: no used object is handed out again
+abbrev pub UsedKept : Module → Step → Type 0
+UsedKept m t = (p j i : ℕ) → InPlace m (view (t .state)) p j i → view (t .state) .mark p j ≢ 0 → Differs m t i → Within (footprint (t .effect) .stores) i
 
 -- ---- one step of a list
 
@@ -188,6 +188,10 @@ pub record SafeStep (m : Module) (t : Step) : Type 0 where
       → ((i : ℕ) → i < memoryBytes → Reads (t .effect) i → byteAt s (memoryPlace i) ≡ byteAt (t .state) (memoryPlace i))
       → SameButPages (applyState m (t .top) (t .effect) s) (stateAfter m t)
   pub keeps : (i : ℕ) → i < memoryBytes → ¬ Changes (t .effect) i → byteAt (stateAfter m t) (memoryPlace i) ≡ byteAt (t .state) (memoryPlace i)
+  -- what kind 27 hands out is all zeros; else a store alone changes an object's bytes, free or used
+  pub zeros : NewZero m t
+  pub free : FreeKept m t
+  pub used : UsedKept m t
   -- after it the state passes the state test
   pub after : Passes m (stateAfter m t)
 

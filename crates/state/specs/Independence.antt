@@ -1,5 +1,5 @@
 -- The byte facts of a safe step (SafeStep): which effect it is depends on no page byte; what it leaves below the pages depends on the page
--- bytes that it reads only; and it changes no page byte but a store's and a granted page's. Assumes nothing.
+-- bytes that it reads only; and it changes no page byte but a store's, a handed out object's and a granted page's. Assumes nothing.
 use mathlib.Core.Path.{_≡_, refl, sym, ap, _∙_}
 use mathlib.Core.Bool.{cond}
 use mathlib.Core.Logic.{_⊎_, inl, inr}
@@ -14,11 +14,12 @@ use Rattle.words.specs.Bits.{withBit}
 use Rattle.rules.specs.Limits.{mostFrames, pages, pageBytes, memoryBytes, stateBytes, memoryAt}
 use Rattle.rules.specs.Decision.{decTyped}
 use Rattle.rules.specs.Module.{Instruction, constant, copy, operate, zeroExtend, signExtend, address, check, field, index, load, store, new, free, input, output, jump, branch, call, return, Function, Module}
-use Rattle.rules.specs.State.{markPlace, memoryPlace, memoryByte, memoryNumber, View, view, Write, written, putStatus, putFrames, putOutputCount, putResult, putOwner, putMark, clearPage, putMemory, putInstruction, putFrame, clearMarks, clearFrame}
+use Rattle.rules.specs.State.{markPlace, memoryPlace, memoryByte, memoryNumber, View, view, Write, written, putStatus, putFrames, putOutputCount, putResult, putOwner, putMark, clearMemory, clearPage, putMemory, putInstruction, putFrame, clearMarks, clearFrame}
 use Rattle.rules.specs.Step.{Effect, assign, fetch, save, takePlace, grantPage, freePlace, goTo, emit, push, pop, finish, stop, stuck, need, decHeld, calleeMap, calleeRegisters, returned, exec, effectAt, effectOf, closes}
 use Rattle.rules.specs.Writes.{closing, leaving, setAndOn, stateWrites, applyState}
+use Rattle.rules.specs.Footprint.{footprint, Within}
 use Rattle.rules.specs.SafeStep.{SameButPages, Reads, Changes}
-use Rattle.state.specs.Update.{stored-apart, zeroed-out, memoryNumber-agree}
+use Rattle.state.specs.Update.{stored-apart, cleared-in, cleared-out, memoryNumber-agree}
 use Rattle.state.specs.Apply.{apply}
 use Rattle.state.specs.Areas.{view-eq, memory-agree, stack-same, owners-same, marks-same, status-agree, frames-agree, outputCount-agree, result-agree, withMemory}
 use Rattle.state.specs.Puts.{after}
@@ -143,8 +144,9 @@ module _ (m : Module) (k : ℕ) (s t : Bytes) (h : SameButPages s t) where
       same-writes _ _
       (from-view (λ v. setAndOn v k a (memoryNumber (view s .memory) x w)) (λ M v. refl) ∙ ap (setAndOn (view t) k a) (numbers-same x w f)) s t h
   reads-law (save b x w y) f = same-writes _ _ (from-view (λ v. putMemory x w y ∷ putInstruction k (suc (v .pc k)) ∷ []) (λ M v. refl)) s t h
-  reads-law (takePlace p j a x) f =
-      same-writes _ _ (from-view (λ v. setAndOn v k a x) (λ M v. refl)) (after (putMark s p j 1) s) (after (putMark t p j 1) t) (same-mark s t s t h h p j 1)
+  reads-law (takePlace p j n a) f =
+      let x : ℕ = pageBytes * p + n * j in
+      same-writes _ _ (from-view (λ v. clearMemory x n ∷ setAndOn v k a x) (λ M v. refl)) (after (putMark s p j 1) s) (after (putMark t p j 1) t) (same-mark s t s t h h p j 1)
   reads-law (grantPage p r a) f =
       same-writes _ _ (from-view (λ v. setAndOn v k a (pageBytes * p)) (λ M v. refl)) _ _
       (same-mark s t (written (clearPage p ∷ putOwner p (suc r) ∷ []) s) (written (clearPage p ∷ putOwner p (suc r) ∷ []) t) h
@@ -163,18 +165,22 @@ module _ (m : Module) (k : ℕ) (s t : Bytes) (h : SameButPages s t) where
 
 -- ---- page bytes
 
--- of a view: a store changes its bytes, a grant its page, nothing else a page byte
-pub memory-kept : (m : Module) (k : ℕ) (e : Effect) (v : View) (i : ℕ) → ¬ Changes e i → apply m k e v .memory i ≡ v .memory i
-memory-kept m k (assign a x) v i n = refl
-memory-kept m k (fetch b a x w) v i n = refl
-memory-kept m k (save b x w y) v i n = stored-apart (v .memory) x w y i (side (decLt i x) (decLt i (x + w)))
+-- outside of w bytes from x on
+beside : (x w i : ℕ) → ¬ ((x ≤ i) × (i < x + w)) → (i < x) ⊎ (x + w ≤ i)
+beside x w i n = side (decLt i x) (decLt i (x + w))
   where
     side : Dec (i < x) → Dec (i < x + w) → (i < x) ⊎ (x + w ≤ i)
     side (yes l) _ = inl l
     side (no l) (yes r) = absurd (n (omega arith, r))
     side (no l) (no r) = inr (omega arith)
-memory-kept m k (takePlace p j a x) v i n = refl
-memory-kept m k (grantPage p r a) v i n = zeroed-out (v .memory) p i n
+
+-- of a view: a store changes its bytes, an object that is handed out and a page that is granted become zero, nothing else changes
+pub memory-kept : (m : Module) (k : ℕ) (e : Effect) (v : View) (i : ℕ) → ¬ Changes e i → apply m k e v .memory i ≡ v .memory i
+memory-kept m k (assign a x) v i n = refl
+memory-kept m k (fetch b a x w) v i n = refl
+memory-kept m k (save b x w y) v i n = stored-apart (v .memory) x w y i (beside x w i (λ h. n (inl h)))
+memory-kept m k (takePlace p j s a) v i n = cleared-out (v .memory) (pageBytes * p + s * j) s i (beside (pageBytes * p + s * j) s i (λ h. n (inr h)))
+memory-kept m k (grantPage p r a) v i n = cleared-out (v .memory) (pageBytes * p) pageBytes i (beside (pageBytes * p) pageBytes i (λ h. n (inr h)))
 memory-kept m k (freePlace p j) v i n = refl
 memory-kept m k (goTo d) v i n = refl
 memory-kept m k (emit x) v i n = refl
@@ -183,6 +189,22 @@ memory-kept m k (pop c a x) v i n = refl
 memory-kept m k (finish x) v i n = refl
 memory-kept m k (stop j) v i n = refl
 memory-kept m k stuck v i n = refl
+
+-- what an effect clears is zero
+pub memory-cleared : (m : Module) (k : ℕ) (e : Effect) (v : View) (i : ℕ) → Within (footprint e .clears) i → apply m k e v .memory i ≡ 0
+memory-cleared m k (assign a x) v i h = absurd (omega (arith, h))
+memory-cleared m k (fetch b a x w) v i h = absurd (omega (arith, h))
+memory-cleared m k (save b x w y) v i h = absurd (omega (arith, h))
+memory-cleared m k (takePlace p j n a) v i h = cleared-in (v .memory) (pageBytes * p + n * j) n i (h .0) (h .1)
+memory-cleared m k (grantPage p r a) v i h = cleared-in (v .memory) (pageBytes * p) pageBytes i (h .0) (h .1)
+memory-cleared m k (freePlace p j) v i h = absurd (omega (arith, h))
+memory-cleared m k (goTo d) v i h = absurd (omega (arith, h))
+memory-cleared m k (emit x) v i h = absurd (omega (arith, h))
+memory-cleared m k (push g μ ρ) v i h = absurd (omega (arith, h))
+memory-cleared m k (pop c a x) v i h = absurd (omega (arith, h))
+memory-cleared m k (finish x) v i h = absurd (omega (arith, h))
+memory-cleared m k (stop j) v i h = absurd (omega (arith, h))
+memory-cleared m k stuck v i h = absurd (omega (arith, h))
 
 pub memory-byte : (s : Bytes) (i : ℕ) → i < memoryBytes → view s .memory i ≡ byteAt s (memoryPlace i)
 unfolding view
@@ -195,3 +217,10 @@ keeps-law m s sized bytes k e b i l n =
     ∙ ap (λ (v : View). v .memory i) (view-apply m s sized bytes k e b)
     ∙ memory-kept m k e (view s) i n
     ∙ memory-byte s i l
+
+pub clears-law : (m : Module) (s : Bytes) → length s ≡ stateBytes → AllBytes s → (k : ℕ) (e : Effect) → Bounded (view s) k e
+    → (i : ℕ) → i < memoryBytes → Within (footprint e .clears) i → byteAt (applyState m k e s) (memoryPlace i) ≡ 0
+clears-law m s sized bytes k e b i l h =
+    sym (memory-byte (applyState m k e s) i l)
+    ∙ ap (λ (v : View). v .memory i) (view-apply m s sized bytes k e b)
+    ∙ memory-cleared m k e (view s) i h

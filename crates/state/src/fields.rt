@@ -6,7 +6,7 @@ ghost use lib.ListN.{length};
 ghost use Rattle.words.specs.Widths.{widthOf};
 ghost use Rattle.words.specs.First.{first};
 ghost use Rattle.rules.specs.Limits.{stateBytes, pages, pageBytes, memoryBytes, mostFrames, mostRegisters, mostRegions};
-ghost use Rattle.rules.specs.State.{view, frameFunction, frameInstruction, frameRegister, frameMap, pageOwner, pageMark, memoryNumber, putStatus, putFrames, putOutputCount, putResult, putOwner, putMark, clearMarks, clearPage, putMemory, putRegister, putInstruction, putFrame, clearFrame};
+ghost use Rattle.rules.specs.State.{view, frameFunction, frameInstruction, frameRegister, frameMap, pageOwner, pageMark, memoryNumber, putStatus, putFrames, putOutputCount, putResult, putOwner, putMark, clearMarks, clearMemory, putMemory, putRegister, putInstruction, putFrame, clearFrame};
 ghost use Rattle.state.specs.Apply.{nothing};
 ghost use Rattle.state.specs.Puts.{after};
 ghost use Rattle.state.specs.NewFrame.{putRegion};
@@ -22,7 +22,6 @@ use crate::places::mark_place;
 use crate::places::marks_place;
 use crate::places::memory_place;
 use crate::places::owner_place;
-use crate::places::page_place;
 use crate::places::register_place;
 use words::bit_clear;
 use words::bit_of;
@@ -178,11 +177,12 @@ pub fn clear_marks(s: &mut [u8], p: u32)
     clear(s, marks_place(p), Machine::MARK_BYTES);
 }
 
-pub fn clear_page(s: &mut [u8], p: u32)
-    requires { ⌜ (length (now s) ≡ stateBytes) × (p < pages) ⌝ }
-    ensures { λ _. ⌜ now (s .exit) ≡ after (clearPage p) (now (s .entry)) ⌝ }
+// The n bytes from address x on become zero.
+pub fn clear_memory(s: &mut [u8], x: u32, n: u32)
+    requires { ⌜ (length (now s) ≡ stateBytes) × (x + n ≤ memoryBytes) ⌝ }
+    ensures { λ _. ⌜ now (s .exit) ≡ after (clearMemory x n) (now (s .entry)) ⌝ }
 {
-    clear(s, page_place(p), Machine::PAGE_BYTES as usize);
+    clear(s, memory_place(x), n as usize);
 }
 
 // The w bytes (1, 2, else 4) from address x on become y.

@@ -1,0 +1,155 @@
+-- Document 02, P1, as it is claimed of a step: which addresses lie in which place, what hands a place out, and steps that the claim
+-- excludes, by computation. Assumes nothing.
+use mathlib.Core.Path.{_≡_, refl}
+use mathlib.Core.Bool.{Bool, true, false}
+use mathlib.Core.Logic.{inl, inr, _≢_}
+use mathlib.Core.List.{[], _∷_}
+use Prim.Native.Nat.{ℕ, suc, _+_, _*_}
+use native.Mathlib.Decide.{ℕ-discrete, decLt, decLe}
+use native.Mathlib.Omega.{arith}
+use lib.ListN.{replicate}
+use Rattle.words.specs.Bytes.{Bytes, number, little, splice, listFrom}
+use Rattle.words.specs.Bits.{bit, withBit}
+use Rattle.words.specs.Decide.{does, does-true, mapDec, decBoth}
+use Rattle.rules.specs.Limits.{pages, pageBytes}
+use Rattle.rules.specs.Types.{sub}
+use Rattle.rules.specs.Module.{Module}
+use Rattle.words.specs.First.{firstFrom, first}
+use Rattle.rules.specs.Flat.{beside, copiesOf, copies, subLayout, flatWith, fieldsFrom, fieldsWith, layouts, flat}
+use Rattle.rules.specs.State.{View, view, putMark, written, frameFunction, frameInstruction, frameRegister, frameMap, pageOwner, pageMark, memoryByte, wordsOf, frameOf}
+use Rattle.rules.specs.Heap.{decLocal, decLive, look, typeOf}
+use Rattle.rules.specs.Host.{firstRegister, firstState}
+use Rattle.rules.specs.Step.{Effect, save, takePlace, grantPage, freePlace, isIn, lowest, lowestNumbers}
+use Rattle.rules.specs.Writes.{stateWrites, applyState}
+use Rattle.rules.specs.Run.{Step}
+use Rattle.rules.specs.SafeStep.{InObject, InPlace, placeBytes, HandsOut, place, page, NewZero, FreeKept, UsedKept}
+use Rattle.rules.specs.CaseStates.{cells}
+use Rattle.rules.specs.CasesMachine.{nines}
+
+-- ---- places
+
+unfoldable pub decInObject : (i p j s : ℕ) → Dec (InObject i p j s)
+decInObject i p j s = mapDec (λ h. record { low = h .0; high = h .1 .0; whole = h .1 .1 }) (λ h. (h .low, (h .high, h .whole)))
+    (decBoth (decLe (pageBytes * p + s * j) i) (decBoth (decLt i (pageBytes * p + s * suc j)) (decLe (s * suc j) pageBytes)))
+
+unfoldable pub decInPlace : (m : Module) (v : View) (p j i : ℕ) → Dec (InPlace m v p j i)
+decInPlace m v p j i = mapDec (λ h. record { page = h .0; inside = h .1 }) (λ h. (h .page, h .inside))
+    (decBoth (decLt p pages) (decInObject i p j (placeBytes m v (v .owner p))))
+
+-- of `cells` in state s
+unfoldable pub inPlaceOf : Bytes → (p j i : ℕ) → Bool
+inPlaceOf s p j i = does (decInPlace (cells []) (view s) p j i)
+
+-- in the state of nines page 1 has objects of 5 bytes, all free; page 2 has no owner
+abbrev pub inPlace : (p j i : ℕ) → Bool
+inPlace = inPlaceOf nines
+
+pub record Places : Type 0 where
+  -- place 5 of page 1 has the addresses 281 to 285
+  pub first : inPlace 1 5 281 ≡ true
+  pub last : inPlace 1 5 285 ≡ true
+  pub before : inPlace 1 5 280 ≡ false
+  pub behind : inPlace 1 5 286 ≡ false
+  -- a place is whole in its page: 51 to a page, and one byte is left
+  pub last-place : inPlace 1 50 510 ≡ true
+  pub tail : inPlace 1 51 511 ≡ false
+  -- a page without owner is one place
+  pub unowned : inPlace 2 0 767 ≡ true
+  pub unowned-second : inPlace 2 1 768 ≡ false
+  -- there are 64 pages
+  pub last-page : inPlace 63 0 16383 ≡ true
+  pub past-pages : inPlace 64 0 16384 ≡ false
+
+pub places : Places
+unfolding inPlaceOf decInPlace decInObject bit withBit number little splice listFrom mapDec decBoth decLocal decLive look typeOf firstFrom first beside copiesOf copies subLayout flatWith fieldsFrom fieldsWith layouts flat frameFunction frameInstruction frameRegister frameMap pageOwner pageMark memoryByte view written wordsOf frameOf firstRegister firstState nines lowestNumbers lowest isIn sub decLt decLe ℕ-discrete
+places = record {
+  first = refl;
+  last = refl;
+  before = refl;
+  behind = refl;
+  last-place = refl;
+  tail = refl;
+  unowned = refl;
+  unowned-second = refl;
+  last-page = refl;
+  past-pages = refl;
+}
+
+-- ---- what hands a place out
+
+pub record Handing : Type 0 where
+  pub very-place : HandsOut (takePlace 1 5 5 0) 1 5
+  pub granted : HandsOut (grantPage 2 0 0) 2 0
+  -- not its neighbour, not the same place of another page, not another page
+  pub neighbour : ¬ HandsOut (takePlace 1 5 5 0) 1 6
+  pub other-page : ¬ HandsOut (takePlace 1 5 5 0) 2 5
+  pub other-granted : ¬ HandsOut (grantPage 2 0 0) 1 0
+  -- not a store, not a free
+  pub stored : ¬ HandsOut (save 5 281 1 8) 1 5
+  pub freed : ¬ HandsOut (freePlace 1 5) 1 5
+
+pub handing : Handing
+handing = record {
+  very-place = place 5 0 refl;
+  granted = page 0 0 refl;
+  neighbour = λ h. elim h [
+    | place n a e ↦ let z : _≡_ {A = ℕ} 5 6 = cc in absurd (omega arith)
+    | page r a e ↦ let z : _≡_ {A = ℕ} 0 1 = cc in absurd (omega arith)
+  ];
+  other-page = λ h. elim h [
+    | place n a e ↦ let z : _≡_ {A = ℕ} 1 2 = cc in absurd (omega arith)
+    | page r a e ↦ let z : _≡_ {A = ℕ} 0 1 = cc in absurd (omega arith)
+  ];
+  other-granted = λ h. elim h [
+    | place n a e ↦ let z : _≡_ {A = ℕ} 0 1 = cc in absurd (omega arith)
+    | page r a e ↦ let z : _≡_ {A = ℕ} 2 1 = cc in absurd (omega arith)
+  ];
+  stored = λ h. elim h [
+    | place n a e ↦ let z : _≡_ {A = ℕ} 0 1 = cc in absurd (omega arith)
+    | page r a e ↦ let z : _≡_ {A = ℕ} 0 1 = cc in absurd (omega arith)
+  ];
+  freed = λ h. elim h [
+    | place n a e ↦ let z : _≡_ {A = ℕ} 0 1 = cc in absurd (omega arith)
+    | page r a e ↦ let z : _≡_ {A = ℕ} 0 1 = cc in absurd (omega arith)
+  ];
+}
+
+-- ---- steps that the claim excludes
+
+-- a step of `cells` by its only frame
+abbrev pub stepFrom : Bytes → Effect → Step
+stepFrom s e = record { form = []; state = s; output = []; top = 0; effect = e }
+
+-- the state of nines with place 5 used
+unfoldable pub withUsed : Bytes
+withUsed = written (putMark nines 1 5 1 ∷ []) nines
+
+in-place : (s : Bytes) (p j i : ℕ) → inPlaceOf s p j i ≡ true → InPlace (cells []) (view s) p j i
+unfolding inPlaceOf
+in-place s p j i e = does-true (decInPlace (cells []) (view s) p j i) e
+
+pub record Excluded : Type 0 where
+  -- objects of 5 bytes: one that is handed out with fewer bytes cleared, as it was or but for its last byte
+  pub as-it-was : ¬ NewZero (cells []) (stepFrom nines (takePlace 1 0 0 0))
+  pub last-byte-kept : ¬ NewZero (cells []) (stepFrom nines (takePlace 1 0 4 0))
+  -- with more: its free neighbour is cleared
+  pub neighbour-cleared : ¬ FreeKept (cells []) (stepFrom nines (takePlace 1 0 10 0))
+  -- a used object, handed out again; a page with one, granted again
+  pub used-handed-out : ¬ UsedKept (cells []) (stepFrom withUsed (takePlace 1 5 5 0))
+  pub used-granted : ¬ UsedKept (cells []) (stepFrom withUsed (grantPage 1 0 0))
+
+pub excluded : Excluded
+unfolding inPlaceOf decInPlace decInObject stateWrites applyState withUsed bit withBit number little splice listFrom mapDec decBoth decLocal decLive look typeOf firstFrom first beside copiesOf copies subLayout flatWith fieldsFrom fieldsWith layouts flat frameFunction frameInstruction frameRegister frameMap pageOwner pageMark memoryByte view written wordsOf frameOf firstRegister firstState nines lowestNumbers lowest isIn sub decLt decLe ℕ-discrete
+excluded = record {
+  as-it-was = λ h. let z : _≡_ {A = ℕ} 9 0 = h 1 0 256 (in-place nines 1 0 256 refl) (place 0 0 refl) in absurd (omega arith);
+  last-byte-kept = λ h. let z : _≡_ {A = ℕ} 9 0 = h 1 0 260 (in-place nines 1 0 260 refl) (place 4 0 refl) in absurd (omega arith);
+  neighbour-cleared = λ h. elim (h 1 1 261 (in-place nines 1 1 261 refl) refl (λ e. let z : _≡_ {A = ℕ} 0 9 = e in absurd (omega arith))) [
+    | inl w ↦ absurd (omega (arith, w))
+    | inr o ↦ elim o [
+      | place n a e ↦ let z : _≡_ {A = ℕ} 0 1 = cc in absurd (omega arith)
+      | page r a e ↦ let z : _≡_ {A = ℕ} 0 1 = cc in absurd (omega arith)
+    ]
+  ];
+  used-handed-out = λ h. let w = h 1 5 281 (in-place withUsed 1 5 281 refl) (λ e. let z : _≡_ {A = ℕ} 1 0 = e in absurd (omega arith)) (λ e. let z : _≡_ {A = ℕ} 0 9 = e in absurd (omega arith)) in absurd (omega (arith, w));
+  used-granted = λ h. let w = h 1 5 281 (in-place withUsed 1 5 281 refl) (λ e. let z : _≡_ {A = ℕ} 1 0 = e in absurd (omega arith)) (λ e. let z : _≡_ {A = ℕ} 0 9 = e in absurd (omega arith)) in absurd (omega (arith, w));
+}
