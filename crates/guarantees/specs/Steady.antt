@@ -34,7 +34,7 @@ settles m ok v k g (fetch b a x w) f =
     let s = f .slot in
     omega (arith, f .bytes, slot-inside m (heapTyping m v (suc k)) x _ (f .slot), s .address, s .fits, s .inside)
 settles m ok v k g (save b x w y) f = tt
-settles m ok v k g (takePlace q j a x) f = tt
+settles m ok v k g (takePlace q j n a) f = tt
 settles m ok v k g (grantPage q r a) f = live-small m ok v k g r (f .alive)
 settles m ok v k g (freePlace q j) f = tt
 settles m ok v k g (goTo d) f = tt

@@ -21,6 +21,7 @@ use Rattle.rules.specs.Heap.{decLocal, decLive, look, typeOf}
 use Rattle.rules.specs.Host.{firstRegister, firstState}
 use Rattle.rules.specs.Step.{Effect, save, takePlace, grantPage, freePlace, isIn, lowest, lowestNumbers}
 use Rattle.rules.specs.Writes.{stateWrites, applyState}
+use Rattle.rules.specs.Footprint.{span, noBytes, footprint}
 use Rattle.rules.specs.Run.{Step}
 use Rattle.rules.specs.SafeStep.{InObject, InPlace, placeBytes, HandsOut, place, page, NewZero, FreeKept, UsedKept}
 use Rattle.rules.specs.CaseStates.{cells}
@@ -74,6 +75,17 @@ places = record {
   last-page = refl;
   past-pages = refl;
 }
+
+-- ---- what an effect clears and grants
+
+pub record Clearing : Type 0 where
+  pub taken : footprint (takePlace 1 5 5 0) .clears ≡ span 281 5
+  pub granted : footprint (grantPage 2 0 0) .clears ≡ span 512 256
+  pub freed : footprint (freePlace 1 5) .clears ≡ noBytes
+  pub grants : (footprint (grantPage 2 0 0) .grants ≡ 1) × (footprint (takePlace 1 5 5 0) .grants ≡ 0)
+
+pub clearing : Clearing
+clearing = record { taken = refl; granted = refl; freed = refl; grants = (refl, refl) }
 
 -- ---- what hands a place out
 

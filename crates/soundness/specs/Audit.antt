@@ -21,6 +21,7 @@ use Rattle.rules.specs.Run.{Step, topOf, stepOf, stateAfter, outputAfter, Trace
 use Rattle.rules.specs.StateTest.{Passes}
 use Rattle.rules.specs.SafeStep.{InRun, Touches, SameButPages, Reads, SafeStep}
 use Rattle.state.specs.Update.{memoryNumber-agree}
+use Rattle.state.specs.Touched.{load-of}
 use Rattle.state.specs.Areas.{memory-agree}
 use Rattle.state.specs.Independence.{view-pages}
 use Rattle.soundness.specs.Facts.{ModuleOk, accepted-ok}
@@ -39,7 +40,7 @@ abbrev pub Named : Module → View → ℕ → Effect → ℕ → Type 0
 Named m v k (assign a x) i = ⊥
 Named m v k (fetch b a x w) i = NamedBy m v k b x i
 Named m v k (save b x w y) i = ⊥
-Named m v k (takePlace p j a x) i = ⊥
+Named m v k (takePlace p j n a) i = ⊥
 Named m v k (grantPage p r a) i = ⊥
 Named m v k (freePlace p j) i = ⊥
 Named m v k (goTo d) i = ⊥
@@ -97,21 +98,11 @@ AgreeOnRun m form (suc b) t s o =
 
 -- a load reads only what its pointer names
 reads-named : (m : Module) (form s o : Bytes) → SafeStep m (stepOf m form s o) → (e : Effect) → effectOf m form (view s) ≡ e → (i : ℕ) → Reads e i → Named m (view s) (topFrame s) e i
-reads-named m form s o h (assign a x) e i r = r
-reads-named m form s o h (fetch b a x w) e i r =
-    let t = h .loads b a x w e in
-    record { target = t .target; within = t .within; type = t .names .register .1; inside = t .bytes i (r .0) (r .1) }
-reads-named m form s o h (save b x w y) e i r = r
-reads-named m form s o h (takePlace p j a x) e i r = r
-reads-named m form s o h (grantPage p q a) e i r = r
-reads-named m form s o h (freePlace p j) e i r = r
-reads-named m form s o h (goTo d) e i r = r
-reads-named m form s o h (emit x) e i r = r
-reads-named m form s o h (push g μ ρ) e i r = r
-reads-named m form s o h (pop c a x) e i r = r
-reads-named m form s o h (finish x) e i r = r
-reads-named m form s o h (stop n) e i r = r
-reads-named m form s o h stuck e i r = r
+reads-named m form s o h e d i r =
+    let l = load-of e i r in
+    let t = h .loads (l .through) (l .register) (l .address) (l .bytes) (d ∙ l .is) in
+    subst (λ (x : Effect). Named m (view s) (topFrame s) x i) (sym (l .is))
+    (record { target = t .target; within = t .within; type = t .names .register .1; inside = t .bytes i (l .low) (l .high) })
 
 module _ (m : Module) (ok : ModuleOk m) (form : Bytes) (form-bytes : AllBytes form) where
   -- one step of both

@@ -81,8 +81,15 @@ module _ (m : Module) (ok : ModuleOk m) (v : View) (k : ℕ) (g : Good m v (suc 
   bounded o (save b x w y) f =
       let s = f .slot in
       (onward (f .next), omega (arith, f .bytes, slot-inside m (heapTyping m v (suc k)) x (f .type) (f .slot), s .address, s .fits, s .inside))
-  bounded o (takePlace p j a x) f =
-      (onward (f .register .next), (record { page = f .inside; place = f .place }, held (heapTyping m v (suc k)) k a x (omega arith) (f .register .register) (f .register .value)))
+  bounded o (takePlace p j n a) f =
+      let facts = ok .function (v .fn k) (g .frames .known k (omega arith)) in (
+        onward (f .register .next),
+        record {
+          held = record { page = f .inside; place = f .place };
+          bytes = omega (arith, f .fits);
+          register = omega (arith, f .register .register, facts .ranges .registers);
+        },
+      )
   bounded o (grantPage p r a) f =
       let facts = ok .function (v .fn k) (g .frames .known k (omega arith)) in (
         onward (f .register .next),

@@ -60,7 +60,7 @@ shown : Effect → List ℕ
 shown (assign a x) = 0 ∷ a ∷ x ∷ []
 shown (fetch b a x w) = 1 ∷ b ∷ a ∷ x ∷ w ∷ []
 shown (save b x w y) = 2 ∷ b ∷ x ∷ w ∷ y ∷ []
-shown (takePlace p j a x) = 3 ∷ p ∷ j ∷ a ∷ x ∷ []
+shown (takePlace p j n a) = 3 ∷ p ∷ j ∷ n ∷ a ∷ []
 shown (grantPage p r a) = 4 ∷ p ∷ r ∷ a ∷ []
 shown (freePlace p j) = 5 ∷ p ∷ j ∷ []
 shown (goTo d) = 6 ∷ d ∷ []

@@ -16,6 +16,8 @@ pub mod Bounds
 -- the state test in document 01's words is the invariant; opening passes it
 pub mod Bridge
 pub mod Opening
+-- free and used objects of a step (document 02, P1)
+pub mod Objects
 -- runs, then lists of calls
 pub mod Sound
 pub mod Stray

@@ -3,7 +3,7 @@ use mathlib.Core.Path.{_≡_, refl, sym, ap, _∙_, subst}
 use mathlib.Core.Logic.{_⊎_, inl, inr, _≢_}
 use mathlib.Core.List.{List}
 use Prim.Native.Nat.{ℕ, suc, _+_, _*_, _<_, _≤_}
-use native.Mathlib.Nat.{not-suc-le-zero, suc-inj}
+use native.Mathlib.Nat.{not-suc-le-zero, suc-inj, mul-le-mul-left}
 use native.Mathlib.Decide.{ℕ-discrete, decLt}
 use native.Mathlib.Omega.{arith}
 use Rattle.words.specs.Choose.{cond-no, came-no, cond-split}
@@ -19,9 +19,9 @@ use Rattle.rules.specs.StateTest.{Chained, FramesOk}
 use Rattle.soundness.specs.Fresh.{In}
 use Rattle.layout.specs.Types.{close-agree, close-sub, sub-prim, Outer, outer-close, outer-all}
 use Rattle.layout.specs.Flat.{flat-inside, flat-has-prim, SamePlace, Apart}
-use Rattle.layout.specs.Heap.{Slot, Kept, value-keep, value-zero, value-bound, slots-apart}
-use Rattle.state.specs.Update.{upd, upd-same, upd-other, upd-cases, upd2, stored, zeroed, memoryNumber-stored, memoryNumber-stored-apart, memoryNumber-zeroed, memoryNumber-zeroed-apart}
-use Rattle.state.specs.Apply.{wrote, moved, saved, marked, granted, pushed, closed, closedOwner, closedMark}
+use Rattle.layout.specs.Heap.{Slot, Kept, value-keep, value-zero, value-bound, slots-apart, slot-inside}
+use Rattle.state.specs.Update.{upd, upd-same, upd-other, upd-cases, upd2, stored, cleared, memoryNumber-stored, memoryNumber-stored-apart, memoryNumber-cleared, memoryNumber-cleared-apart}
+use Rattle.state.specs.Apply.{wrote, moved, saved, marked, emptied, granted, pushed, closed, closedOwner, closedMark}
 use Rattle.soundness.specs.Facts.{ModuleOk}
 use Rattle.soundness.specs.Good.{Good, typeOf-agree, typeOf-miss, CallRule, map-live, fresh-map, outer-page, live-in, live-more}
 
@@ -155,7 +155,7 @@ good-saved m v n x y q g s h = record {
     go z t l (inl e) = rw (← (e .place), ← (e .tree), memoryNumber-stored (v .memory) x (width q) y (value-bound m (heapTyping m v n) q y h)) h
     go z t l (inr e) = rw (memoryNumber-stored-apart (v .memory) x (width q) y z (width t) (e .gap)) (g .slots z t l)
 
--- ---- 27 and 28: marks, and a new page
+-- ---- 27 and 28: marks, an object that is handed out, and a new page
 
 pub good-marked : (m : Module) (v : View) (n p j b : ℕ) → Good m v n → (v .owner p ≡ 0 → b ≡ 0) → Good m (marked p j b v) n
 good-marked m v n p j b g h = record {
@@ -166,6 +166,58 @@ good-marked m v n p j b g h = record {
   registers = g .registers;
   slots = g .slots;
 }
+
+-- place j of page p becomes zero: a slot lies in it, where zero is a value, or apart
+pub good-emptied : (m : Module) (v : View) (n p j s r : ℕ) → Good m v n → v .owner p ≡ suc r → s ≡ size m (typeOf m (v .fn) (v .map) n r) → s * suc j ≤ pageBytes
+    → Good m (emptied (pageBytes * p + s * j) s v) n
+good-emptied m v n p j s r g own is whole = record {
+  frames = g .frames;
+  page0 = g .page0;
+  owners = g .owners;
+  marks = g .marks;
+  registers = g .registers;
+  slots = λ x q l. page x q l (ℕ-discrete (l .page) p);
+}
+  where
+    W : HeapTyping
+    W = heapTyping m v n
+
+    Kept-value : (x : ℕ) (q : Tree live) → Type 0
+    Kept-value x q = Value m (heapTyping m v n) q (memoryNumber (cleared (v .memory) (pageBytes * p + s * j) s) x (width q))
+
+    apart : (x : ℕ) (q : Tree live) → Slot m (heapTyping m v n) x q → (pageBytes * p + s * j + s ≤ x) ⊎ (x + width q ≤ pageBytes * p + s * j) → Kept-value x q
+    apart x q l h = rw (memoryNumber-cleared-apart (v .memory) (pageBytes * p + s * j) s x (width q) h) (g .slots x q l)
+
+    page : (x : ℕ) (q : Tree live) (l : Slot m (heapTyping m v n) x q) → Dec (l .page ≡ p) → Kept-value x q
+    page x q l (no d) = elsewhere (decLt (l .page) p)
+      where
+        end : l .distance + width q ≤ size m (typeOf m (v .fn) (v .map) n (l .region))
+        end = slot-inside m W x q l
+
+        elsewhere : Dec (l .page < p) → Kept-value x q
+        elsewhere (yes b) = apart x q l (inr (omega (arith, l .address, l .fits, end)))
+        elsewhere (no b) = apart x q l (inl (omega (arith, l .address, l .fits, end, whole)))
+    page x q l (yes d) = place (decLt (l .place) j) (decLt j (l .place))
+      where
+        same : size m (typeOf m (v .fn) (v .map) n (l .region)) ≡ s
+        same =
+            let e : l .region ≡ r = suc-inj (sym (l .own) ∙ ap (v .owner) d ∙ own) in
+            ap (λ (i : ℕ). size m (typeOf m (v .fn) (v .map) n i)) e ∙ sym is
+
+        end : l .distance + width q ≤ s
+        end = rw same at (slot-inside m W x q l)
+
+        at : x ≡ pageBytes * p + (s * l .place + l .distance)
+        at = l .address ∙ (λ i. pageBytes * d i + (same i * l .place + l .distance))
+
+        place : Dec (l .place < j) → Dec (j < l .place) → Kept-value x q
+        place (yes b) _ = apart x q l (inr (omega (arith, at, end, mul-le-mul-left s b)))
+        place (no b) (yes o) = apart x q l (inl (omega (arith, at, mul-le-mul-left s o)))
+        place (no b) (no o) =
+            let here : l .place ≡ j = omega arith in
+            let there : s * l .place ≡ s * j = ap (λ (i : ℕ). s * i) here in
+            rw (memoryNumber-cleared (v .memory) (pageBytes * p + s * j) s x (width q) (omega (arith, at, there)) (omega (arith, at, end, there)))
+            (value-zero m W q (flat-has-prim m (typeOf m (v .fn) (v .map) n (l .region)) (l .has)))
 
 pub good-granted : (m : Module) (v : View) (n p r : ℕ) → Good m v n → 0 < p → v .owner p ≡ 0 → Live m (v .fn) (v .map) n (suc r) → Good m (granted p r v) n
 good-granted m v n p r g a e l = record {
@@ -190,12 +242,12 @@ good-granted m v n p r g a e l = record {
       pages = λ i h. upd-other (v .owner) p (suc r) i (λ d. let z : 0 ≡ suc s = sym e ∙ ap (v .owner) (sym d) ∙ h in omega arith) ∙ h;
     })
 
-    page : (x : ℕ) (q : Tree live) (s : Slot m after x q) → Dec (s .page ≡ p) → Value m after q (memoryNumber (zeroed (v .memory) p) x (width q))
+    page : (x : ℕ) (q : Tree live) (s : Slot m after x q) → Dec (s .page ≡ p) → Value m after q (memoryNumber (cleared (v .memory) (pageBytes * p) pageBytes) x (width q))
     page x q s (yes d) =
         let T : Tree live = typeOf m (v .fn) (v .map) n (s .region) in
         let y : ℕ = size m T * s .place + s .distance in
         let at : x ≡ pageBytes * p + y = rw (← d) (s .address) in
-        rw (at, memoryNumber-zeroed (v .memory) p y (width q) (omega (arith, flat-inside m T (s .has), s .fits)))
+        rw (at, memoryNumber-cleared (v .memory) (pageBytes * p) pageBytes (pageBytes * p + y) (width q) (omega arith) (omega (arith, flat-inside m T (s .has), s .fits)))
         (value-zero m after q (flat-has-prim m T (s .has)))
     page x q s (no d) =
         let T : Tree live = typeOf m (v .fn) (v .map) n (s .region) in
@@ -212,8 +264,9 @@ good-granted m v n p r g a e l = record {
           has = s .has;
           address = s .address;
         } in
-        let same : memoryNumber (zeroed (v .memory) p) x (width q) ≡ memoryNumber (v .memory) x (width q) =
-        rw at (memoryNumber-zeroed-apart (v .memory) p (s .page) y (width q) d (omega (arith, flat-inside m T (s .has), s .fits))) in
+        let same : memoryNumber (cleared (v .memory) (pageBytes * p) pageBytes) x (width q) ≡ memoryNumber (v .memory) x (width q) =
+        memoryNumber-cleared-apart (v .memory) (pageBytes * p) pageBytes x (width q)
+        (elim (decLt (s .page) p) [ yes b ↦ inr (omega (arith, at, flat-inside m T (s .has), s .fits)) | no b ↦ inl (omega (arith, at)) ]) in
         rw same (value-keep m before after q (memoryNumber (v .memory) x (width q)) (kept q) (g .slots x q old))
 
 -- ---- a slot under another heap typing that has the same type for its region

@@ -12,7 +12,8 @@ use lib.Dec.{eqb, ltb}
 use lib.ListN.{length, getD, List·getD-eq-default}
 use borrow.Author.Tests.{ltb-true, eqb-true, not-false}
 use Rattle.words.specs.Bytes.{Bytes, AllBytes, byteAt}
-use Rattle.words.specs.FirstLaws.{firstFrom-least}
+use Rattle.words.specs.First.{first}
+use Rattle.words.specs.FirstLaws.{firstFrom-least, first-fails}
 use Rattle.words.specs.Choose.{cond-lt, cond-nlt, cond-split, split-lt, split-eq, both}
 use Rattle.rules.specs.Limits.{pages, pageBytes, firstPage, pastPage, mostFrames, outputBytes, zeroAddress, checkFails, noPage, indexPast, formEnded, outputFull, tooDeep}
 use Rattle.words.specs.Decide.{does, does-true, decAll}
@@ -41,6 +42,13 @@ use Rattle.soundness.specs.Operations.{Fits, cut-lt, operate-fits, quoti
 use Rattle.soundness.specs.Good.{Good, CallRule, chain-rule, through-types, map-live, map-typed, live-length}
 use Rattle.soundness.specs.Preserve.{SafePush}
 use Rattle.soundness.specs.Safe.{Next, SafeSet, SafeFree, SafePop, Safe}
+
+-- the place that kind 27 takes was not used
+unused-place : (owner : ℕ → ℕ) (mark : ℕ → ℕ → ℕ) (s p : ℕ) → unusedPlace owner mark s p < placesInPage s → mark p (unusedPlace owner mark s p) ≡ 0
+unfolding unusedPlace
+unused-place owner mark s p h =
+    let j : ℕ = first (placesInPage s) (λ j. not (eqb (mark p j) 0)) in
+    eqb-true (mark p j) 0 (not-false (eqb (mark p j) 0) (first-fails (placesInPage s) (λ j. not (eqb (mark p j) 0)) h))
 
 -- ---- guards and choices: what holds of each effect behind them holds of the whole
 
@@ -230,7 +238,7 @@ module _ (m : Module) (ok : ModuleOk m) (form : Bytes) (bytes : AllBytes form) (
       → Safe m v k (allocate (v .owner) (v .mark) firstPage pastPage (v .map k (r .number)) (size m (top m v k .regionType (r .number))) a)
   unfolding allocate roomPage unownedPage hasRoom
   allocate-safe a T r ra e n =
-      split-lt (Safe m v k) p pastPage (takePlace p (unusedPlace (v .owner) (v .mark) s p) a (pageBytes * p + s * unusedPlace (v .owner) (v .mark) s p)) (cond (ltb q pastPage) (grantPage q i a) (stop noPage)) old
+      split-lt (Safe m v k) p pastPage (takePlace p (unusedPlace (v .owner) (v .mark) s p) s a) (cond (ltb q pastPage) (grantPage q i a) (stop noPage)) old
       (λ _. split-lt (Safe m v k) q pastPage (grantPage q i a) (stop noPage) fresh (λ _. listed noPage (omega arith) (omega arith)))
     where
       i : ℕ
@@ -248,7 +256,7 @@ module _ (m : Module) (ok : ModuleOk m) (form : Bytes) (bytes : AllBytes form) (
       scope : r .number < regions (top m v k)
       scope = pointer-scope a T r ra
 
-      old : p < pastPage → Safe m v k (takePlace p (unusedPlace (v .owner) (v .mark) s p) a (pageBytes * p + s * unusedPlace (v .owner) (v .mark) s p))
+      old : p < pastPage → Safe m v k (takePlace p (unusedPlace (v .owner) (v .mark) s p) s a)
       old h =
           let l = firstFrom-least (λ p. not (hasRoom (v .owner) (v .mark) i s p)) firstPage (pastPage - firstPage) in
           let b = not-false (hasRoom (v .owner) (v .mark) i s p) (l .fails h) in
@@ -263,7 +271,9 @@ module _ (m : Module) (ok : ModuleOk m) (form : Bytes) (bytes : AllBytes form) (
             inside = h;
             place = omega (arith, fits, one);
             own = own;
-            fits = rw (object-size (r .number) scope) fits;
+            size = sym (object-size (r .number) scope);
+            fits = fits;
+            unused = unused-place (v .owner) (v .mark) s p place;
             register = set-run a T r (pageBytes * p + s * j) ra n (object-run (heapTyping m v (suc k)) refl a T r ra e p j h own fits);
           }
 

@@ -1,11 +1,11 @@
 -- What makes an effect safe: it is not stuck, what it writes is a value of its type, and what it touches is the value that its
 -- pointer's type names, whole inside one object of a live region in scope. Assumes nothing.
 use mathlib.Core.Path.{_≡_}
-use Prim.Native.Nat.{ℕ, suc, _*_, _^_, _<_, _≤_}
+use Prim.Native.Nat.{ℕ, suc, _+_, _*_, _^_, _<_, _≤_}
 use Rattle.rules.specs.Limits.{pages, pageBytes, outputBytes}
 use Rattle.rules.specs.Types.{live, Tree, width}
 use Rattle.rules.specs.Module.{Module}
-use Rattle.rules.specs.Flat.{size}
+use Rattle.rules.specs.Flat.{size as sizeOf}
 use Rattle.rules.specs.State.{View}
 use Rattle.rules.specs.Heap.{close, Live, typeOf, heapTyping, Value}
 use Rattle.rules.specs.Step.{Effect, assign, fetch, save, takePlace, grantPage, freePlace, goTo, emit, push, pop, finish, stop, stuck}
@@ -40,20 +40,23 @@ pub record SafeSave (m : Module) (v : View) (k b x w y : ℕ) : Type 0 where
   pub value : Value m (heapTyping m v (suc k)) type y
   pub touches : Touches m v k b x w
 
-pub record SafeTake (m : Module) (v : View) (k p j a x : ℕ) : Type 0 where
+-- a place of n bytes of a page, which has it unused
+pub record SafeTake (m : Module) (v : View) (k p j n a : ℕ) : Type 0 where
   pub region : ℕ
   pub inside : p < pages
   pub place : j < pageBytes
   pub own : v .owner p ≡ suc region
-  pub fits : size m (typeOf m (v .fn) (v .map) (suc k) region) * suc j ≤ pageBytes
-  pub register : SafeSet m v k a x
+  pub size : n ≡ sizeOf m (typeOf m (v .fn) (v .map) (suc k) region)
+  pub fits : n * suc j ≤ pageBytes
+  pub unused : v .mark p j ≡ 0
+  pub register : SafeSet m v k a (pageBytes * p + n * j)
 
 pub record SafeGrant (m : Module) (v : View) (k p r a : ℕ) : Type 0 where
   pub above : 0 < p
   pub inside : p < pages
   pub unowned : v .owner p ≡ 0
   pub alive : Live m (v .fn) (v .map) (suc k) (suc r)
-  pub fits : size m (typeOf m (v .fn) (v .map) (suc k) r) ≤ pageBytes
+  pub fits : sizeOf m (typeOf m (v .fn) (v .map) (suc k) r) ≤ pageBytes
   pub register : SafeSet m (granted p r v) k a (pageBytes * p)
 
 pub record SafeFree (m : Module) (v : View) (k p j : ℕ) : Type 0 where
@@ -71,7 +74,7 @@ abbrev pub Safe : Module → View → ℕ → Effect → Type 0
 Safe m v k (assign a x) = SafeSet m v k a x
 Safe m v k (fetch b a x w) = SafeFetch m v k b a x w
 Safe m v k (save b x w y) = SafeSave m v k b x w y
-Safe m v k (takePlace p j a x) = SafeTake m v k p j a x
+Safe m v k (takePlace p j n a) = SafeTake m v k p j n a
 Safe m v k (grantPage p r a) = SafeGrant m v k p r a
 Safe m v k (freePlace p j) = SafeFree m v k p j
 Safe m v k (goTo d) = d < m .function (v .fn k) .codeLength

@@ -11,18 +11,20 @@ use borrow.Author.Tests.{eqb-true}
 use Rattle.words.specs.Bytes.{Bytes, AllBytes}
 use Rattle.rules.specs.Module.{Module}
 use Rattle.rules.specs.State.{View, view}
-use Rattle.rules.specs.Step.{Effect, assign, fetch, save, takePlace, grantPage, freePlace, goTo, emit, push, pop, finish, stop, stuck, effectAt, effectOf, grantedBy, handedBackBy}
+use Rattle.rules.specs.Step.{Effect, assign, fetch, save, takePlace, grantPage, freePlace, goTo, emit, push, pop, finish, stop, stuck, effectAt, effectOf, handedBackBy}
+use Rattle.rules.specs.Footprint.{footprint}
 use Rattle.rules.specs.Run.{Step, topOf, stepOf, stateAfter, outputAfter, Trace, noSteps, runOf, isStuck, stuckSteps}
 use Rattle.rules.specs.StateTest.{StatusOk, running, stopped, ended, SpareOk}
 use Rattle.rules.specs.SafeStep.{SafeStep, AllSafe}
 use Rattle.rules.specs.Calls.{owned, granted, handedBack}
 use Rattle.state.specs.Effects.{Bounded, view-apply}
 use Rattle.state.specs.Whole.{Whole, whole-apply}
-use Rattle.state.specs.Independence.{decides-law, reads-law, keeps-law}
+use Rattle.state.specs.Independence.{decides-law, reads-law, keeps-law, clears-law}
 use Rattle.soundness.specs.Facts.{ModuleOk}
 use Rattle.soundness.specs.Good.{Good}
 use Rattle.soundness.specs.Safe.{Safe}
 use Rattle.soundness.specs.Progress.{progress}
+use Rattle.soundness.specs.Objects.{new-zero, free-kept, used-kept}
 use Rattle.soundness.specs.Step.{Test, fetched, pages-step, preserve, ended-none}
 use Rattle.soundness.specs.Bounds.{bounded}
 use Rattle.soundness.specs.Bridge.{test-passes}
@@ -39,7 +41,7 @@ stuck-none : (m : Module) (v : View) (k : ℕ) (e : Effect) → Safe m v k e →
 stuck-none m v k (assign a x) f = refl
 stuck-none m v k (fetch b a x w) f = refl
 stuck-none m v k (save b x w y) f = refl
-stuck-none m v k (takePlace p j a x) f = refl
+stuck-none m v k (takePlace p j n a) f = refl
 stuck-none m v k (grantPage p r a) f = refl
 stuck-none m v k (freePlace p j) f = refl
 stuck-none m v k (goTo d) f = refl
@@ -108,7 +110,7 @@ module _ (m : Module) (ok : ModuleOk m) where
     pub moving : isStuck (effectOf m form (view s)) ≡ 0
     pub test : Test m (view (stateAfter m (stepOf m form s o)))
     pub whole : Whole (stateAfter m (stepOf m form s o))
-    pub pages : owned (stateAfter m (stepOf m form s o)) + handedBackBy m (view s) (topFrame s) (effectOf m form (view s)) ≡ owned s + grantedBy (effectOf m form (view s))
+    pub pages : owned (stateAfter m (stepOf m form s o)) + handedBackBy m (view s) (topFrame s) (effectOf m form (view s)) ≡ owned s + footprint (effectOf m form (view s)) .grants
 
   pub stepped : (form s o : Bytes) → AllBytes form → Test m (view s) → Whole s → view s .status ≡ 0 → Stepped form s o
   stepped form s o b t w z =
@@ -117,6 +119,8 @@ module _ (m : Module) (ok : ModuleOk m) where
       let after = view-apply m s (w .size) (w .bytes) (topFrame s) (effectOf m form (view s)) (r .bounds) in
       let test : Test m (view (stateAfter m (stepOf m form s o))) =
       rw after (preserve m ok (view s) (topFrame s) (effectOf m form (view s)) (r .frame) z (r .result) (t .output) (r .good) (r .spare) f) in
+      let keeps = keeps-law m s (w .size) (w .bytes) (topFrame s) (effectOf m form (view s)) (r .bounds) in
+      let clears = clears-law m s (w .size) (w .bytes) (topFrame s) (effectOf m form (view s)) (r .bounds) in
       let held : Whole (stateAfter m (stepOf m form s o)) = whole-apply m s (topFrame s) (effectOf m form (view s)) (r .bounds) w in
       record {
         safe = record {
@@ -131,7 +135,10 @@ module _ (m : Module) (ok : ModuleOk m) where
               record { register = g .register; value = fetched m (view s) (topFrame s) b a y w (r .good) g };
           decides = λ y h. decides-law m form y s h;
           reads = λ y h q. reads-law m (topFrame s) y s h (effectOf m form (view s)) q;
-          keeps = keeps-law m s (w .size) (w .bytes) (topFrame s) (effectOf m form (view s)) (r .bounds);
+          keeps = keeps;
+          zeros = new-zero m s (topFrame s) (effectOf m form (view s)) (r .frame) f keeps clears;
+          free = λ p j i h u. free-kept m s (topFrame s) (effectOf m form (view s)) (r .frame) f keeps p j i h;
+          used = used-kept m s (topFrame s) (effectOf m form (view s)) (r .frame) f keeps (r .good);
           after = test-passes m ok (stateAfter m (stepOf m form s o)) (held .size) (held .spare) test;
         };
         moving = stuck-none m (view s) (topFrame s) (effectOf m form (view s)) f;

@@ -14,7 +14,7 @@ use Rattle.rules.specs.Heap.{Live, typeOf}
 use Rattle.rules.specs.Step.{closes}
 use Rattle.rules.specs.StateTest.{MarksEnd, SpareOk}
 use Rattle.state.specs.Update.{upd, upd-same, upd-other, upd-cases}
-use Rattle.state.specs.Apply.{wrote, moved, saved, marked, granted, counted, pushed, closed, closedOwner, became}
+use Rattle.state.specs.Apply.{wrote, moved, saved, marked, emptied, granted, counted, pushed, closed, closedOwner, became}
 use Rattle.soundness.specs.Facts.{ModuleOk}
 use Rattle.soundness.specs.Good.{Good}
 use Rattle.soundness.specs.Preserve.{upd2-cases, SafePush, open-kept, left-owner, live-kept}
@@ -60,6 +60,9 @@ spare-became m v n s x c = record { functions = c .functions; instructions = c .
 
 pub spare-counted : (m : Module) (v : View) (n : ℕ) → SpareOk m v n → SpareOk m (counted v) n
 spare-counted m v n c = record { functions = c .functions; instructions = c .instructions; frameRegisters = c .frameRegisters; frameMaps = c .frameMaps; registers = c .registers; maps = c .maps; marks = λ p l. ends-of m (counted v) n p (v .owner p) (of-ends m v n p (v .owner p) (c .marks p l)) }
+
+pub spare-emptied : (m : Module) (v : View) (n x s : ℕ) → SpareOk m v n → SpareOk m (emptied x s v) n
+spare-emptied m v n x s c = record { functions = c .functions; instructions = c .instructions; frameRegisters = c .frameRegisters; frameMaps = c .frameMaps; registers = c .registers; maps = c .maps; marks = λ p l. ends-of m (emptied x s v) n p (v .owner p) (of-ends m v n p (v .owner p) (c .marks p l)) }
 
 -- the mark of a place that the page has, or a mark taken away
 pub spare-marked : (m : Module) (v : View) (n p j b : ℕ) → SpareOk m v n

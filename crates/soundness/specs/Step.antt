@@ -13,18 +13,19 @@ use Rattle.rules.specs.Types.{width}
 use Rattle.rules.specs.Module.{Module, regions}
 use Rattle.rules.specs.State.{View, memoryNumber}
 use Rattle.rules.specs.Heap.{close, heapTyping, Value}
-use Rattle.rules.specs.Step.{Effect, assign, fetch, save, takePlace, grantPage, freePlace, goTo, emit, push, pop, finish, stop, stuck, grantedBy, handedBackBy}
+use Rattle.rules.specs.Step.{Effect, assign, fetch, save, takePlace, grantPage, freePlace, goTo, emit, push, pop, finish, stop, stuck, handedBackBy}
+use Rattle.rules.specs.Footprint.{footprint}
 use Rattle.rules.specs.StateTest.{StatusOk, running, stopped, ended, SpareOk}
 use Rattle.rules.specs.Calls.{ownedBelow}
 use Rattle.layout.specs.Types.{outer-close}
 use Rattle.layout.specs.Heap.{Kept, value-keep}
 use Rattle.state.specs.Update.{upd, upd-same, upd-other}
-use Rattle.state.specs.Apply.{wrote, moved, saved, marked, granted, counted, pushed, closed, became, apply, nothing}
+use Rattle.state.specs.Apply.{wrote, moved, saved, marked, emptied, granted, counted, pushed, closed, became, apply, nothing}
 use Rattle.state.specs.Pages.{GrantsUnowned, pages-apply}
 use Rattle.soundness.specs.Facts.{ModuleOk}
 use Rattle.soundness.specs.Good.{Good}
-use Rattle.soundness.specs.Preserve.{good-moved, good-wrote, good-saved, good-marked, good-granted, good-closed, good-pushed, open-kept, below-open}
-use Rattle.soundness.specs.Spare.{spare-moved, spare-wrote, spare-saved, spare-became, spare-counted, spare-marked, spare-granted, spare-pushed, spare-closed}
+use Rattle.soundness.specs.Preserve.{good-moved, good-wrote, good-saved, good-marked, good-emptied, good-granted, good-closed, good-pushed, open-kept, below-open}
+use Rattle.soundness.specs.Spare.{spare-moved, spare-wrote, spare-saved, spare-became, spare-counted, spare-emptied, spare-marked, spare-granted, spare-pushed, spare-closed}
 use Rattle.soundness.specs.Safe.{SafeFetch, SafePop, Safe}
 
 -- ---- pages
@@ -34,7 +35,7 @@ grants-unowned : (m : Module) (v : View) (k : ℕ) (e : Effect) → Safe m v k e
 grants-unowned m v k (assign a x) f = tt
 grants-unowned m v k (fetch b a x w) f = tt
 grants-unowned m v k (save b x w y) f = tt
-grants-unowned m v k (takePlace p j a x) f = tt
+grants-unowned m v k (takePlace p j n a) f = tt
 grants-unowned m v k (grantPage p r a) f = (f .inside, f .unowned)
 grants-unowned m v k (freePlace p j) f = tt
 grants-unowned m v k (goTo d) f = tt
@@ -46,7 +47,7 @@ grants-unowned m v k (stop n) f = tt
 grants-unowned m v k stuck f = tt
 
 pub pages-step : (m : Module) (v : View) (k : ℕ) (e : Effect) → Safe m v k e
-    → ownedBelow (apply m k e v .owner) pages + handedBackBy m v k e ≡ ownedBelow (v .owner) pages + grantedBy e
+    → ownedBelow (apply m k e v .owner) pages + handedBackBy m v k e ≡ ownedBelow (v .owner) pages + footprint e .grants
 pages-step m v k e f = pages-apply m v k e (grants-unowned m v k e f)
 
 owned-none : (f : ℕ → ℕ) (n : ℕ) → ((p : ℕ) → p < n → f p ≡ 0) → ownedBelow f n ≡ 0
@@ -117,11 +118,18 @@ preserve m ok v k (save b x w y) n s z o g c f =
     going m (moved k (suc (v .pc k)) (saved x w y v)) k n s z o
     (rw (f .bytes) (good-moved m (saved x (width (f .type)) y v) k (suc (v .pc k)) (good-saved m v (suc k) x y (f .type) g (f .slot) (f .value)) (f .next)))
     (spare-moved m (saved x w y v) k (suc (v .pc k)) (spare-saved m v (suc k) x w y c))
-preserve m ok v k (takePlace p j a x) n s z o g c f =
-    going m (wrote k a x (marked p j 1 v)) k n s z o
-    (good-wrote m (marked p j 1 v) k a x (good-marked m v (suc k) p j 1 g (λ d. absurd (omega (arith, f .own)))) (f .register .next) (f .register .value))
-    (spare-wrote m (marked p j 1 v) k a x
-    (spare-marked m v (suc k) p j 1 c (λ r d h. let e : r ≡ f .region = suc-inj (sym d ∙ f .own) in let wide = rw e at h in absurd (omega (arith, f .fits, wide)))) (f .register .register))
+preserve m ok v k (takePlace p j w a) n s z o g c f =
+    let x : ℕ = pageBytes * p + w * j in
+    let u : View = emptied x w (marked p j 1 v) in
+    going m (wrote k a x u) k n s z o
+    (good-wrote m u k a x
+    (good-emptied m (marked p j 1 v) (suc k) p j w (f .region) (good-marked m v (suc k) p j 1 g (λ d. absurd (omega (arith, f .own)))) (f .own) (f .size) (f .fits))
+    (f .register .next) (f .register .value))
+    (spare-wrote m u k a x
+    (spare-emptied m (marked p j 1 v) (suc k) x w
+    (spare-marked m v (suc k) p j 1 c
+    (λ r d h. let e : r ≡ f .region = suc-inj (sym d ∙ f .own) in let wide : pageBytes < w * suc j = rw (e, ← (f .size)) at h in absurd (omega (arith, f .fits, wide)))))
+    (f .register .register))
 preserve m ok v k (grantPage p r a) n s z o g c f =
     let u : View = granted p r v in
     going m (wrote k a (pageBytes * p) (marked p 0 1 u)) k n s z o

@@ -25,10 +25,11 @@ module _ (m : Module) (v : View) (k : ℕ) where
       omega (arith, none-from b x w (λ i low high. h i low (omega arith)))
 
   none-by : (e : Effect) → ((b a x w : ℕ) → e ≡ fetch b a x w → Touches m v k b x w) → ((b x w y : ℕ) → e ≡ save b x w y → Touches m v k b x w) → strayBy m v k e ≡ 0
+  unfolding strayFrom
   none-by (assign a x) l s = refl
-  none-by (fetch b a x w) l s = none-from b x w (touched-in b x w (l b a x w refl))
-  none-by (save b x w y) l s = none-from b x w (touched-in b x w (s b x w y refl))
-  none-by (takePlace p j a x) l s = refl
+  none-by (fetch b a x w) l s = omega (arith, none-from b x w (touched-in b x w (l b a x w refl)))
+  none-by (save b x w y) l s = omega (arith, none-from b x w (touched-in b x w (s b x w y refl)))
+  none-by (takePlace p j n a) l s = refl
   none-by (grantPage p r a) l s = refl
   none-by (freePlace p j) l s = refl
   none-by (goTo d) l s = refl

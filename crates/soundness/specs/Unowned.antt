@@ -3,10 +3,10 @@
 -- bytes, and still differ in such pages only: what lies there bears on nothing, whatever the form. Assumes nothing.
 use mathlib.Core.Path.{_≡_, refl, sym, ap, ap₂, _∙_, subst}
 use mathlib.Core.Bool.{Bool, true, false, true≢false, false≢true}
-use mathlib.Core.Logic.{_≢_}
+use mathlib.Core.Logic.{_⊎_, inl, inr, _≢_}
 use mathlib.Core.List.{List, _∷_}
-use Prim.Native.Nat.{ℕ, zero, suc, _+_, _/_, _%_, _<_, _≤_}
-use native.Mathlib.Decide.{ℕ-discrete}
+use Prim.Native.Nat.{ℕ, zero, suc, _+_, _*_, _/_, _%_, _<_, _≤_}
+use native.Mathlib.Decide.{decLt}
 use native.Mathlib.Omega.{arith}
 use lib.Dec.{eqb}
 use borrow.Author.Tests.{eqb-true}
@@ -26,8 +26,9 @@ use Rattle.rules.specs.StateTest.{Passes}
 use Rattle.rules.specs.SafeStep.{Touches, SameButPages, Reads, SafeStep}
 use Rattle.layout.specs.Flat.{flat-inside}
 use Rattle.layout.specs.Close.{size-close}
-use Rattle.state.specs.Update.{upd, upd-cases, upd-other, stored, zeroed, zeroed-in, zeroed-out}
+use Rattle.state.specs.Update.{upd, upd-cases, upd-other, stored, cleared, cleared-in, cleared-out}
 use Rattle.state.specs.Apply.{apply}
+use Rattle.state.specs.Touched.{load-of}
 use Rattle.state.specs.Areas.{withMemory}
 use Rattle.state.specs.Effects.{Bounded, view-apply}
 use Rattle.state.specs.Whole.{Whole, spare-edges, whole-apply}
@@ -54,19 +55,9 @@ touched-owned m v k b x w i t l h z =
     omega arith
 
 reads-owned : (m : Module) (form s o : Bytes) → SafeStep m (stepOf m form s o) → (e : Effect) → effectOf m form (view s) ≡ e → (i : ℕ) → Reads e i → view s .owner (i / pageBytes) ≢ 0
-reads-owned m form s o h (assign a x) e i r = absurd r
-reads-owned m form s o h (fetch b a x w) e i r = touched-owned m (view s) (topFrame s) b x w i (h .loads b a x w e) (r .0) (r .1)
-reads-owned m form s o h (save b x w y) e i r = absurd r
-reads-owned m form s o h (takePlace p j a x) e i r = absurd r
-reads-owned m form s o h (grantPage p q a) e i r = absurd r
-reads-owned m form s o h (freePlace p j) e i r = absurd r
-reads-owned m form s o h (goTo d) e i r = absurd r
-reads-owned m form s o h (emit x) e i r = absurd r
-reads-owned m form s o h (push g μ ρ) e i r = absurd r
-reads-owned m form s o h (pop c a x) e i r = absurd r
-reads-owned m form s o h (finish x) e i r = absurd r
-reads-owned m form s o h (stop n) e i r = absurd r
-reads-owned m form s o h stuck e i r = absurd r
+reads-owned m form s o h e d i r =
+    let l = load-of e i r in
+    touched-owned m (view s) (topFrame s) (l .through) (l .address) (l .bytes) i (h .loads (l .through) (l .register) (l .address) (l .bytes) (d ∙ l .is)) (l .low) (l .high)
 
 -- ---- what an effect leaves in the owned pages
 
@@ -79,18 +70,29 @@ stored-same f g x (suc w) y i e =
     (λ d. upd-cases (λ (c : ℕ). c ≡ y % 256) f x (y % 256) i (λ _. refl) (λ n. absurd (n d)))
     (λ n. upd-other f x (y % 256) i n ∙ e))
 
+cleared-same : (f g : ℕ → ℕ) (x n i : ℕ) → ((i < x) ⊎ (x + n ≤ i) → f i ≡ g i) → cleared f x n i ≡ cleared g x n i
+cleared-same f g x n i e = go (decLt i x) (decLt i (x + n))
+  where
+    apart : (i < x) ⊎ (x + n ≤ i) → cleared f x n i ≡ cleared g x n i
+    apart h = cleared-out f x n i h ∙ e h ∙ sym (cleared-out g x n i h)
+
+    go : Dec (i < x) → Dec (i < x + n) → cleared f x n i ≡ cleared g x n i
+    go (yes l) _ = apart (inl l)
+    go (no l) (no h) = apart (inr (omega arith))
+    go (no l) (yes h) = cleared-in f x n i (omega arith) h ∙ sym (cleared-in g x n i (omega arith) h)
+
 -- equal in the owned pages before, equal in those owned after
 memory-same : (m : Module) (k : ℕ) (e : Effect) (v : View) (M : ℕ → ℕ) (i : ℕ) → (v .owner (i / pageBytes) ≢ 0 → M i ≡ v .memory i)
     → apply m k e v .owner (i / pageBytes) ≢ 0 → apply m k e (withMemory M v) .memory i ≡ apply m k e v .memory i
 memory-same m k (assign a x) v M i h n = h n
 memory-same m k (fetch b a x w) v M i h n = h n
 memory-same m k (save b x w y) v M i h n = stored-same M (v .memory) x w y i (h n)
-memory-same m k (takePlace p j a x) v M i h n = h n
-memory-same m k (grantPage p r a) v M i h n = go (ℕ-discrete (i / pageBytes) p)
+memory-same m k (takePlace p j s a) v M i h n = cleared-same M (v .memory) (pageBytes * p + s * j) s i (λ _. h n)
+memory-same m k (grantPage p r a) v M i h n = cleared-same M (v .memory) (pageBytes * p) pageBytes i (λ d. h (λ z. n (upd-other (v .owner) p (suc r) (i / pageBytes) (other d) ∙ z)))
   where
-    go : Dec (i / pageBytes ≡ p) → zeroed M p i ≡ zeroed (v .memory) p i
-    go (yes e) = zeroed-in M p i e ∙ sym (zeroed-in (v .memory) p i e)
-    go (no d) = zeroed-out M p i d ∙ h (λ z. n (upd-other (v .owner) p (suc r) (i / pageBytes) d ∙ z)) ∙ sym (zeroed-out (v .memory) p i d)
+    other : (i < pageBytes * p) ⊎ (pageBytes * p + pageBytes ≤ i) → i / pageBytes ≢ p
+    other (inl l) e = omega arith
+    other (inr l) e = omega arith
 memory-same m k (freePlace p j) v M i h n = h n
 memory-same m k (goTo d) v M i h n = h n
 memory-same m k (emit x) v M i h n = h n
@@ -105,7 +107,7 @@ bounded-same : (v : View) (M : ℕ → ℕ) (k : ℕ) (e : Effect) → Bounded v
 bounded-same v M k (assign a x) b = (record { frame = b .0 .frame; next = b .0 .next }, b .1)
 bounded-same v M k (fetch r a x w) b = (record { frame = b .0 .frame; next = b .0 .next }, b .1)
 bounded-same v M k (save r x w y) b = (record { frame = b .0 .frame; next = b .0 .next }, b .1)
-bounded-same v M k (takePlace p j a x) b = (record { frame = b .0 .frame; next = b .0 .next }, b .1)
+bounded-same v M k (takePlace p j n a) b = (record { frame = b .0 .frame; next = b .0 .next }, b .1)
 bounded-same v M k (grantPage p r a) b = (record { frame = b .0 .frame; next = b .0 .next }, b .1)
 bounded-same v M k (freePlace p j) b = (record { frame = b .0 .frame; next = b .0 .next }, b .1)
 bounded-same v M k (goTo d) b = b

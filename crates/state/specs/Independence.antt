@@ -20,6 +20,7 @@ use Rattle.rules.specs.Writes.{closing, leaving, setAndOn, stateWrites, applySt
 use Rattle.rules.specs.Footprint.{footprint, Within}
 use Rattle.rules.specs.SafeStep.{SameButPages, Reads, Changes}
 use Rattle.state.specs.Update.{stored-apart, cleared-in, cleared-out, memoryNumber-agree}
+use Rattle.state.specs.Touched.{clear-of, byTake, byGrant}
 use Rattle.state.specs.Apply.{apply}
 use Rattle.state.specs.Areas.{view-eq, memory-agree, stack-same, owners-same, marks-same, status-agree, frames-agree, outputCount-agree, result-agree, withMemory}
 use Rattle.state.specs.Puts.{after}
@@ -192,19 +193,10 @@ memory-kept m k stuck v i n = refl
 
 -- what an effect clears is zero
 pub memory-cleared : (m : Module) (k : ℕ) (e : Effect) (v : View) (i : ℕ) → Within (footprint e .clears) i → apply m k e v .memory i ≡ 0
-memory-cleared m k (assign a x) v i h = absurd (omega (arith, h))
-memory-cleared m k (fetch b a x w) v i h = absurd (omega (arith, h))
-memory-cleared m k (save b x w y) v i h = absurd (omega (arith, h))
-memory-cleared m k (takePlace p j n a) v i h = cleared-in (v .memory) (pageBytes * p + n * j) n i (h .0) (h .1)
-memory-cleared m k (grantPage p r a) v i h = cleared-in (v .memory) (pageBytes * p) pageBytes i (h .0) (h .1)
-memory-cleared m k (freePlace p j) v i h = absurd (omega (arith, h))
-memory-cleared m k (goTo d) v i h = absurd (omega (arith, h))
-memory-cleared m k (emit x) v i h = absurd (omega (arith, h))
-memory-cleared m k (push g μ ρ) v i h = absurd (omega (arith, h))
-memory-cleared m k (pop c a x) v i h = absurd (omega (arith, h))
-memory-cleared m k (finish x) v i h = absurd (omega (arith, h))
-memory-cleared m k (stop j) v i h = absurd (omega (arith, h))
-memory-cleared m k stuck v i h = absurd (omega (arith, h))
+memory-cleared m k e v i h = elim (clear-of e i h) [
+  | byTake p j n a d w ↦ ap (λ (x : Effect). apply m k x v .memory i) d ∙ cleared-in (v .memory) (pageBytes * p + n * j) n i (w .0) (w .1)
+  | byGrant p r a d w ↦ ap (λ (x : Effect). apply m k x v .memory i) d ∙ cleared-in (v .memory) (pageBytes * p) pageBytes i (w .0) (w .1)
+]
 
 pub memory-byte : (s : Bytes) (i : ℕ) → i < memoryBytes → view s .memory i ≡ byteAt s (memoryPlace i)
 unfolding view

@@ -8,6 +8,7 @@ pub mod Puts
 pub mod Closing
 pub mod Effects
 pub mod Whole
+pub mod Touched
 pub mod Independence
 pub mod Marks
 pub mod Fields
