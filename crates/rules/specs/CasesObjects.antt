@@ -85,7 +85,12 @@ pub record Clearing : Type 0 where
   pub grants : (footprint (grantPage 2 0 0) .grants ≡ 1) × (footprint (takePlace 1 5 5 0) .grants ≡ 0)
 
 pub clearing : Clearing
-clearing = record { taken = refl; granted = refl; freed = refl; grants = (refl, refl) }
+clearing = record {
+  taken = refl;
+  granted = refl;
+  freed = refl;
+  grants = (refl, refl);
+}
 
 -- ---- what hands a place out
 
