@@ -1,6 +1,6 @@
 -- What demand 3 claims of one step of a list (`SafeStep`): that it is the rules' step and moves on, ends or stops; which bytes a load or
--- store touches, with the count of those that stray; what a load fetches; what bears on the step and what it changes; and the state test
--- after it. Assumes nothing.
+-- store touches, with the count of those that stray; what a load fetches; what bears on the step and what it changes; what becomes of free
+-- and used objects (document 02, P1); and the state test after it. Assumes nothing.
 use mathlib.Core.Path.{_≡_}
 use mathlib.Core.Bool.{cond}
 use mathlib.Core.Logic.{_⊎_, inl, inr, _≢_}
