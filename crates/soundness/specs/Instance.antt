@@ -1,6 +1,6 @@
 -- The theorem is not empty. A file whose function 0 takes an object, stores 42 in it, calls function 1 for its region with the pointer,
--- frees the object and returns what function 1 has loaded: accepted, opened, and run, by computation; and the claim of demand 3 for
--- every list of calls with it. Assumes nothing.
+-- which loads it, frees the object, takes it again and returns what it holds then: accepted, opened, and run, by computation; and the
+-- claim of demand 3 for every list of calls with it. Assumes nothing.
 use mathlib.Core.Path.{_≡_, refl, sym, ap, ap₂, _∙_, subst}
 use mathlib.Core.Logic.{inl}
 use mathlib.Core.List.{List, [], _∷_}
@@ -51,9 +51,9 @@ use Rattle.soundness.specs.ForCode.{opened-steady, go-went}
 pub example : Bytes
 example = file
     ((1 ∷ 4 ∷ []) ∷ (2 ∷ 0 ∷ 0 ∷ []) ∷
-    (7 ∷ 0 ∷ 1 ∷ 3 ∷ 0 ∷ 0 ∷ 6 ∷ 0 ∷ []) ∷ (8 ∷ 0 ∷ []) ∷ (9 ∷ 1 ∷ 0 ∷ 0 ∷ []) ∷
-    (27 ∷ 0 ∷ []) ∷ (16 ∷ 1 ∷ 0 ∷ 0 ∷ 42 ∷ []) ∷ (26 ∷ 0 ∷ 1 ∷ []) ∷ (33 ∷ 2 ∷ 1 ∷ 0 ∷ 0 ∷ []) ∷ (35 ∷ 0 ∷ []) ∷ (28 ∷ 0 ∷ []) ∷ (34 ∷ 2 ∷ []) ∷
-    (7 ∷ 1 ∷ 0 ∷ 2 ∷ 0 ∷ 1 ∷ 2 ∷ 0 ∷ []) ∷ (8 ∷ 0 ∷ []) ∷ (9 ∷ 1 ∷ 0 ∷ []) ∷ (25 ∷ 1 ∷ 0 ∷ []) ∷ (34 ∷ 1 ∷ []) ∷ []) 29425
+    (7 ∷ 0 ∷ 1 ∷ 3 ∷ 0 ∷ 0 ∷ 8 ∷ 0 ∷ []) ∷ (8 ∷ 0 ∷ []) ∷ (9 ∷ 1 ∷ 0 ∷ 0 ∷ []) ∷
+    (27 ∷ 0 ∷ []) ∷ (16 ∷ 1 ∷ 0 ∷ 0 ∷ 42 ∷ []) ∷ (26 ∷ 0 ∷ 1 ∷ []) ∷ (33 ∷ 2 ∷ 1 ∷ 0 ∷ 0 ∷ []) ∷ (35 ∷ 0 ∷ []) ∷ (28 ∷ 0 ∷ []) ∷ (27 ∷ 0 ∷ []) ∷ (25 ∷ 1 ∷ 0 ∷ []) ∷ (34 ∷ 1 ∷ []) ∷
+    (7 ∷ 1 ∷ 0 ∷ 2 ∷ 0 ∷ 1 ∷ 2 ∷ 0 ∷ []) ∷ (8 ∷ 0 ∷ []) ∷ (9 ∷ 1 ∷ 0 ∷ []) ∷ (25 ∷ 1 ∷ 0 ∷ []) ∷ (34 ∷ 1 ∷ []) ∷ []) 36555
 
 -- an effect as numbers
 shown : Effect → List ℕ
@@ -77,9 +77,9 @@ effects (t ∷ ts) = shown (t .effect) ∷ effects ts
 
 -- ---- accepted and opened
 
-pub accepted : verdictOf example ≡ Accepted 2 0 2 8
+pub accepted : verdictOf example ≡ Accepted 2 0 2 10
 unfolding example number little listFrom firstFrom first sumBelow decBoth decEither decImp decAll decThe mapDec decList decEach asInt asPtr asArr decReg withInt withPtr anInt aPtr decConstant decCopy decOperate decZero decSigned decAddress decCheck decField decIndex decThrough decLoad decStore decWhole decNew decFree decInput decOutput decJump decBranch decCall decReturn decTyped regionBytes treeOf treesOf fieldsOf places codePlaces callOf arithmeticOf memoryOf controlOf byGroup instructionOf codeOf functionOf moduleOf startOf instructionAt checkSum blockTest records recordStart recordOf groupOf decPlaced decPrims beside copiesOf copies subLayout flatWith fieldsFrom fieldsWith layouts flat structFlat decRun decSame operandTable classesOf operandFits along quickRecords quickOf four seven fourLoose sevenLoose termFits nameFits headRanges functionFits listFits regionBytesFit instructionFits argumentsFit fitsIn fits recordTestWith verdict decRegion sub decTree decUses decPrimitive termTest structTest functionTest instructionTest instructionStage lastTest moduleStages instructions moduleRules toCode toRegisters openedFunction done toFunction toName step next nextScan scan whole decCounts decTerm decStruct scopeOf decFunction decEntry decLast ℕ-discrete decLt decLe recordsBytes fileOf file
-accepted = agree (case example (Accepted 2 0 2 8) ∷ []) refl .0
+accepted = agree (case example (Accepted 2 0 2 10) ∷ []) refl .0
 
 accepted-example : IsAccepted (verdictOf example)
 accepted-example = subst IsAccepted (sym accepted) tt
@@ -108,16 +108,17 @@ output = replicate outputBytes 0
 pub ran : Trace
 ran = runOf (moduleOf example) [] 1000 start output
 
--- page 1 granted to region 0; 42; stored at 256; function 1 with region 0 and the pointer; loaded; returned into register 2; freed; ended
-pub ran-effects : effects (ran .steps) ≡ (4 ∷ 1 ∷ 0 ∷ 0 ∷ []) ∷ (0 ∷ 1 ∷ 42 ∷ []) ∷ (2 ∷ 0 ∷ 256 ∷ 4 ∷ 42 ∷ []) ∷ (8 ∷ 1 ∷ 0 ∷ 256 ∷ []) ∷ (1 ∷ 0 ∷ 1 ∷ 256 ∷ 4 ∷ []) ∷ (9 ∷ 0 ∷ 2 ∷ 42 ∷ []) ∷ (5 ∷ 1 ∷ 0 ∷ []) ∷ (10 ∷ 42 ∷ []) ∷ []
+-- page 1 granted to region 0; 42; stored at 256; function 1 with region 0 and the pointer; loaded; returned into register 2; freed;
+-- handed out again, 4 bytes; loaded; ended, with 0
+pub ran-effects : effects (ran .steps) ≡ (4 ∷ 1 ∷ 0 ∷ 0 ∷ []) ∷ (0 ∷ 1 ∷ 42 ∷ []) ∷ (2 ∷ 0 ∷ 256 ∷ 4 ∷ 42 ∷ []) ∷ (8 ∷ 1 ∷ 0 ∷ 256 ∷ []) ∷ (1 ∷ 0 ∷ 1 ∷ 256 ∷ 4 ∷ []) ∷ (9 ∷ 0 ∷ 2 ∷ 42 ∷ []) ∷ (5 ∷ 1 ∷ 0 ∷ []) ∷ (3 ∷ 1 ∷ 0 ∷ 4 ∷ 0 ∷ []) ∷ (1 ∷ 0 ∷ 1 ∷ 256 ∷ 4 ∷ []) ∷ (10 ∷ 0 ∷ []) ∷ []
 unfolding start output ran shown effects example recordsBytes fileOf file bit withBit number little splice listFrom firstFrom first decBoth decEither decImp decNot decAll decAny decThe mapDec decList decEach decRegion sub decTree decPlaced decPrims beside copiesOf copies subLayout flatWith fieldsFrom fieldsWith layouts flat decRun positionAt decSame asInt asPtr asArr decReg withInt withPtr anInt aPtr decConstant decCopy decOperate decZero decSigned decAddress decCheck decField decIndex decThrough decLoad decStore decWhole decNew decFree decInput decOutput decJump decBranch decCall decReturn decTyped frameFunction frameInstruction frameRegister frameMap pageOwner pageMark memoryByte view memoryNumber written wordsOf frameOf decLocal decLive localList liveList look typeOf decStands decValue operationOf flag valueIf leftBy rightBy magnitude nearestOf signedBy nearestBy biased operated signExtended need onInt onPtr onArr decIsCall decStandsAtCall onCall isIn lowest lowestNumbers decHome unusedPlace hasRoom roomPage unownedPage allocate notZero computed decHeld calleeMap calleeRegisters returned exec effectAt effectOf closedPages closing leaving stateWrites outputWrites applyState applyOutput runOf stuckSteps decCounts decTerm decStruct structFlat decUses regionBytes treeOf treesOf fieldsOf places codePlaces callOf arithmeticOf memoryOf controlOf byGroup instructionOf codeOf functionOf moduleOf records recordStart recordOf groupOf toCode toRegisters openedFunction done toFunction toName step next nextScan scan whole outcomeOf wentOf firstRegister firstState objectIn ℕ-discrete decLt decLe
 ran-effects = refl
 
-ran-outcome : outcomeOf (view (ran .state)) ≡ ended 42
+ran-outcome : outcomeOf (view (ran .state)) ≡ ended 0
 unfolding start output ran example recordsBytes fileOf file bit withBit number little splice listFrom firstFrom first decBoth decEither decImp decNot decAll decAny decThe mapDec decList decEach decRegion sub decTree decPlaced decPrims beside copiesOf copies subLayout flatWith fieldsFrom fieldsWith layouts flat decRun positionAt decSame asInt asPtr asArr decReg withInt withPtr anInt aPtr decConstant decCopy decOperate decZero decSigned decAddress decCheck decField decIndex decThrough decLoad decStore decWhole decNew decFree decInput decOutput decJump decBranch decCall decReturn decTyped frameFunction frameInstruction frameRegister frameMap pageOwner pageMark memoryByte view memoryNumber written wordsOf frameOf decLocal decLive localList liveList look typeOf decStands decValue operationOf flag valueIf leftBy rightBy magnitude nearestOf signedBy nearestBy biased operated signExtended need onInt onPtr onArr decIsCall decStandsAtCall onCall isIn lowest lowestNumbers decHome unusedPlace hasRoom roomPage unownedPage allocate notZero computed decHeld calleeMap calleeRegisters returned exec effectAt effectOf closedPages closing leaving stateWrites outputWrites applyState applyOutput runOf stuckSteps decCounts decTerm decStruct structFlat decUses regionBytes treeOf treesOf fieldsOf places codePlaces callOf arithmeticOf memoryOf controlOf byGroup instructionOf codeOf functionOf moduleOf records recordStart recordOf groupOf toCode toRegisters openedFunction done toFunction toName step next nextScan scan whole outcomeOf wentOf firstRegister firstState objectIn ℕ-discrete decLt decLe
 ran-outcome = refl
 
-ran-steps : length (ran .steps) ≡ 8
+ran-steps : length (ran .steps) ≡ 10
 unfolding start output ran example recordsBytes fileOf file bit withBit number little splice listFrom firstFrom first decBoth decEither decImp decNot decAll decAny decThe mapDec decList decEach decRegion sub decTree decPlaced decPrims beside copiesOf copies subLayout flatWith fieldsFrom fieldsWith layouts flat decRun positionAt decSame asInt asPtr asArr decReg withInt withPtr anInt aPtr decConstant decCopy decOperate decZero decSigned decAddress decCheck decField decIndex decThrough decLoad decStore decWhole decNew decFree decInput decOutput decJump decBranch decCall decReturn decTyped frameFunction frameInstruction frameRegister frameMap pageOwner pageMark memoryByte view memoryNumber written wordsOf frameOf decLocal decLive localList liveList look typeOf decStands decValue operationOf flag valueIf leftBy rightBy magnitude nearestOf signedBy nearestBy biased operated signExtended need onInt onPtr onArr decIsCall decStandsAtCall onCall isIn lowest lowestNumbers decHome unusedPlace hasRoom roomPage unownedPage allocate notZero computed decHeld calleeMap calleeRegisters returned exec effectAt effectOf closedPages closing leaving stateWrites outputWrites applyState applyOutput runOf stuckSteps decCounts decTerm decStruct structFlat decUses regionBytes treeOf treesOf fieldsOf places codePlaces callOf arithmeticOf memoryOf controlOf byGroup instructionOf codeOf functionOf moduleOf records recordStart recordOf groupOf toCode toRegisters openedFunction done toFunction toName step next nextScan scan whole outcomeOf wentOf firstRegister firstState objectIn ℕ-discrete decLt decLe
 ran-steps = refl
 
@@ -126,7 +127,7 @@ pub ran-pages : (granted (ran .steps) ≡ 1) × (handedBack (moduleOf example) (
 unfolding start output ran granted handedBack example recordsBytes fileOf file bit withBit number little splice listFrom firstFrom first decBoth decEither decImp decNot decAll decAny decThe mapDec decList decEach decRegion sub decTree decPlaced decPrims beside copiesOf copies subLayout flatWith fieldsFrom fieldsWith layouts flat decRun positionAt decSame asInt asPtr asArr decReg withInt withPtr anInt aPtr decConstant decCopy decOperate decZero decSigned decAddress decCheck decField decIndex decThrough decLoad decStore decWhole decNew decFree decInput decOutput decJump decBranch decCall decReturn decTyped frameFunction frameInstruction frameRegister frameMap pageOwner pageMark memoryByte view memoryNumber written wordsOf frameOf decLocal decLive localList liveList look typeOf decStands decValue operationOf flag valueIf leftBy rightBy magnitude nearestOf signedBy nearestBy biased operated signExtended need onInt onPtr onArr decIsCall decStandsAtCall onCall isIn lowest lowestNumbers decHome unusedPlace hasRoom roomPage unownedPage allocate notZero computed decHeld calleeMap calleeRegisters returned exec effectAt effectOf closedPages closing leaving stateWrites outputWrites applyState applyOutput runOf stuckSteps decCounts decTerm decStruct structFlat decUses regionBytes treeOf treesOf fieldsOf places codePlaces callOf arithmeticOf memoryOf controlOf byGroup instructionOf codeOf functionOf moduleOf records recordStart recordOf groupOf toCode toRegisters openedFunction done toFunction toName step next nextScan scan whole outcomeOf wentOf firstRegister firstState objectIn ℕ-discrete decLt decLe
 ran-pages = (refl, refl)
 
--- its load and its store touch no byte outside the value
+-- its loads and its store touch no byte outside the value
 pub ran-stray : strayBytes (moduleOf example) (ran .steps) ≡ 0
 unfolding start output ran decInPrimitives decNames decInValue strayFrom strayBytes example recordsBytes fileOf file bit withBit number little splice listFrom firstFrom first decBoth decEither decImp decNot decAll decAny decThe mapDec decList decEach decRegion sub decTree decPlaced decPrims beside copiesOf copies subLayout flatWith fieldsFrom fieldsWith layouts flat decRun positionAt decSame asInt asPtr asArr decReg withInt withPtr anInt aPtr decConstant decCopy decOperate decZero decSigned decAddress decCheck decField decIndex decThrough decLoad decStore decWhole decNew decFree decInput decOutput decJump decBranch decCall decReturn decTyped frameFunction frameInstruction frameRegister frameMap pageOwner pageMark memoryByte view memoryNumber written wordsOf frameOf decLocal decLive localList liveList look typeOf decStands decValue operationOf flag valueIf leftBy rightBy magnitude nearestOf signedBy nearestBy biased operated signExtended need onInt onPtr onArr decIsCall decStandsAtCall onCall isIn lowest lowestNumbers decHome unusedPlace hasRoom roomPage unownedPage allocate notZero computed decHeld calleeMap calleeRegisters returned exec effectAt effectOf closedPages closing leaving stateWrites outputWrites applyState applyOutput runOf stuckSteps decCounts decTerm decStruct structFlat decUses regionBytes treeOf treesOf fieldsOf places codePlaces callOf arithmeticOf memoryOf controlOf byGroup instructionOf codeOf functionOf moduleOf records recordStart recordOf groupOf toCode toRegisters openedFunction done toFunction toName step next nextScan scan whole outcomeOf wentOf firstRegister firstState objectIn ℕ-discrete decLt decLe
 ran-stray = refl
@@ -136,8 +137,8 @@ ran-stray = refl
 no-bytes : AllBytes []
 no-bytes i = omega arith
 
--- going on answers "ended 42" after 8 steps
-pub example-goes : goOf example [] start output 1000 ≡ went (ended 42) 8 (ran .state) (ran .output)
+-- going on answers "ended 0" after 10 steps: the 42 is gone
+pub example-goes : goOf example [] start output 1000 ≡ went (ended 0) 10 (ran .state) (ran .output)
 unfolding ran output
 example-goes =
     let s = opened-steady example [] (replicate stateBytes 0) start accepted-example no-bytes opened-example in
