@@ -1,4 +1,4 @@
-//! A reference interpreter of region-checked modules, written from document 01 alone.
+//! A reference interpreter of region-checked modules, written from documents 01 and 02 alone.
 //! It shares no text and no definition with the proved code, so that an error of either shows
 //! as a difference between the two.
 

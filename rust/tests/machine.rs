@@ -1,5 +1,5 @@
-//! The machine: the small cases C1 to C10, every stop, opening, going on and the program's worked
-//! module, by hand.
+//! The machine: the small cases C1 to C10, what kind 27 clears, every stop, opening, going on and the
+//! program's worked module, by hand.
 
 mod common;
 
@@ -99,7 +99,7 @@ fn c1_places_to_a_page() {
 }
 
 #[test]
-fn c4_places_are_reused_with_their_bytes() {
+fn c4_places_are_reused() {
     let mut module = integers();
     let mut function = one_region(&mut module, I32, &[]);
     function.registers.push(function.registers[1]);
@@ -107,11 +107,11 @@ fn c4_places_are_reused_with_their_bytes() {
         code::new(1),
         code::new(4),
         code::constant(0, 77),
-        code::store(1, 0),
+        code::store(4, 0),
         code::free(1),
         code::free(1),
         code::new(1),
-        code::load(2, 1),
+        code::load(2, 4),
         code::ret(2),
     ];
     let mut session = session(module, &function);
@@ -126,7 +126,143 @@ fn c4_places_are_reused_with_their_bytes() {
     assert_eq!(session.go(9), ended(77, 2));
     // The page's bytes last until the next grant.
     let view = session.view();
-    assert_eq!((view.owned_pages(), view.marks[1], view.memory[256]), (0, [0; 4], 77));
+    assert_eq!((view.owned_pages(), view.marks[1], view.memory[260]), (0, [0; 4], 77));
+}
+
+/// The first page that is granted begins here.
+const FIRST_PAGE: u32 = 256;
+
+/// One region of arrays of i8: registers 0 i32, 1 pointer to the array, 4 pointer to i8, 5 i8.
+fn pool(size: u32, code: &[Record]) -> Session {
+    let mut module = integers();
+    let object = module.array(I8, size);
+    let byte = module.pointer(I8, 0);
+    let mut function = one_region(&mut module, object, code);
+    function.registers.extend([byte, I8]);
+    function.code.push(code::ret(0));
+    session(module, &function)
+}
+
+/// Stores a byte through kind 22, whether the object there is used or free.
+fn store_at(address: u32, value: u8) -> [Record; 4] {
+    [
+        code::constant(0, address),
+        code::check(4, 0),
+        code::constant(5, u32::from(value)),
+        code::store(4, 5),
+    ]
+}
+
+/// Stores a byte other than zero into each of these places.
+fn fill(bytes: std::ops::Range<u32>) -> Vec<Record> {
+    bytes.flat_map(|address| store_at(address, address as u8 | 1)).collect()
+}
+
+/// Frees the object at this address.
+fn free_at(address: u32) -> [Record; 3] {
+    [code::constant(0, address), code::check(1, 0), code::free(1)]
+}
+
+fn bytes(session: &Session, bytes: std::ops::Range<u32>) -> Vec<u8> {
+    session.view().memory[bytes.start as usize..bytes.end as usize].to_vec()
+}
+
+#[test]
+fn an_object_is_cleared_when_it_is_handed_out_not_when_it_is_freed() {
+    let object = FIRST_PAGE..FIRST_PAGE + 4;
+    let code = [vec![code::new(1)], fill(object.clone()), vec![code::free(1), code::new(1)]];
+    let mut session = pool(4, &code.concat());
+    session.go(1 + 4 * 4);
+    let stored = bytes(&session, object.clone());
+    assert!(!stored.contains(&0));
+    session.go(1);
+    assert_eq!((session.view().marks[1][0], bytes(&session, object.clone())), (0, stored));
+    session.go(1);
+    assert_eq!((session.view().marks[1][0], bytes(&session, object)), (1, vec![0; 4]));
+}
+
+#[test]
+fn all_bytes_of_an_object_are_cleared() {
+    for size in [1, 2, 3, 5, 8, 64, 100, 255, 256] {
+        let object = FIRST_PAGE..FIRST_PAGE + size;
+        for at in [object.start, object.start + size / 2, object.end - 1] {
+            let store = store_at(at, 7);
+            let code = [&[code::new(1)], &store[..], &[code::free(1), code::new(1)]].concat();
+            let mut session = pool(size, &code);
+            session.go(1 + 4 + 1);
+            assert_eq!(session.view().memory[at as usize], 7, "size {size}, byte {at}");
+            session.go(1);
+            assert_eq!(bytes(&session, object.clone()), vec![0; size as usize], "size {size}");
+        }
+    }
+}
+
+#[test]
+fn the_neighbours_keep_their_bytes() {
+    // Of three objects the middle one is handed out again; those beside it are used, or the higher
+    // one is free.
+    let three = FIRST_PAGE..FIRST_PAGE + 9;
+    let middle = FIRST_PAGE + 3;
+    for higher_free in [false, true] {
+        let mut code = [vec![code::new(1); 3], fill(three.clone())].concat();
+        code.extend(free_at(middle));
+        if higher_free {
+            code.extend(free_at(middle + 3));
+        }
+        let steps = code.len() as u64;
+        code.push(code::new(1));
+        let mut session = pool(3, &code);
+        session.go(steps);
+        let mut expected = bytes(&session, three.clone());
+        assert!(!expected.contains(&0));
+        session.go(1);
+        expected[3..6].fill(0);
+        assert_eq!((session.register(1), bytes(&session, three.clone())), (middle, expected));
+    }
+}
+
+#[test]
+fn an_object_stored_to_before_it_was_ever_handed_out_is_cleared() {
+    let second = FIRST_PAGE + 4..FIRST_PAGE + 8;
+    let code = [vec![code::new(1)], fill(second.clone()), vec![code::new(1)]].concat();
+    let mut session = pool(4, &code);
+    session.go(1 + 4 * 4);
+    assert!(!bytes(&session, second.clone()).contains(&0));
+    session.go(1);
+    assert_eq!((session.register(1), bytes(&session, second.clone())), (second.start, vec![0; 4]));
+}
+
+#[test]
+fn kind_22_reads_a_free_object() {
+    let mut code = vec![code::new(1)];
+    code.extend(store_at(FIRST_PAGE, 9));
+    code.extend([code::free(1), code::check(4, 0), code::load(5, 4), code::zero_extend(0, 5)]);
+    assert_eq!(pool(4, &code).go(100), ended(9, 1 + 4 + 4 + 1));
+}
+
+#[test]
+fn a_27_that_stops_with_34_clears_nothing() {
+    // The other region has a free object with bytes stored; all other pages are the first one's.
+    let mut module = integers();
+    let block = module.array(I8, 256);
+    let blocks = module.pointer(block, 0);
+    let numbers = module.pointer(I32, 1);
+    let code = [
+        code::new(1),
+        code::constant(0, 77),
+        code::store(1, 0),
+        code::free(1),
+        code::new(2),
+        code::jump(4),
+    ];
+    let function = main_function(&[block, I32], &[I32, numbers, blocks], &code);
+    let mut session = session(module, &function);
+    assert_eq!(session.go(4 + 2 * 62), running(4 + 2 * 62));
+    let mut expected = session.state.clone();
+    assert_eq!(session.go(1), stopped(34, 1));
+    expected[0] = 34;
+    assert!(session.state == expected);
+    assert_eq!((session.view().marks[1][0], session.view().memory[256]), (0, 77));
 }
 
 #[test]

@@ -1,6 +1,7 @@
 //! What must hold of every module, tried on random ones: a call equals the same budget split, the
 //! state passes the state test after every step, pages are accounted for, no step changes other
-//! bytes than its own, and states changed by hand are refused or go on soundly.
+//! bytes than its own, objects are handed out clean, and states changed by hand are refused or go on
+//! soundly.
 
 use reference::calls;
 use reference::damage::{change_state, damage};
@@ -8,10 +9,11 @@ use reference::file::Refusal;
 use reference::generator::{draw, Sample};
 use reference::host;
 use reference::machine::{Outcome, Run};
-use reference::module::{decode, Module, Term};
+use reference::module::{decode, Function, Instruction, Module, Term};
 use reference::prng::Prng;
-use reference::state::{State, MEMORY_BYTES, OUTPUT_BYTES, PAGES, PAGE_BYTES, STATE_BYTES};
+use reference::state::{Frame, State, MEMORY_BYTES, OUTPUT_BYTES, PAGES, PAGE_BYTES, STATE_BYTES};
 use reference::tally::Tally;
+use reference::types::sizes;
 use std::ops::Range;
 
 /// A module with its state and output, as a host keeps them.
@@ -130,6 +132,9 @@ fn each_step_changes_only_what_it_may() {
                 let bytes = may_write(&module, &old, &new);
                 let changed = (0..MEMORY_BYTES).filter(|&at| old.memory[at] != new.memory[at]);
                 assert!(changed.into_iter().all(|at| bytes.contains(&at)), "seed {seed}");
+                if let Some(object) = handed_out(&module, &old, &new) {
+                    assert!(new.memory[object].iter().all(|&byte| byte == 0), "seed {seed}");
+                }
             }
             if run.outcome != Outcome::Running {
                 break;
@@ -138,12 +143,35 @@ fn each_step_changes_only_what_it_may() {
     }
 }
 
-/// The page bytes that a step from one state to the next may write: those of the value stored,
-/// or a page that is granted.
-fn may_write(module: &Module, old: &State, new: &State) -> Range<usize> {
-    let frame = old.frames.last().expect("a frame");
+/// The instruction that a state stands at, with its frame and function.
+fn standing<'s>(
+    module: &'s Module,
+    state: &'s State,
+) -> (&'s Frame, &'s Function, &'s Instruction) {
+    let frame = state.frames.last().expect("a frame");
     let function = &module.functions[usize::from(frame.function)];
-    let instruction = &function.code[usize::from(frame.instruction)];
+    (frame, function, &function.code[usize::from(frame.instruction)])
+}
+
+/// The bytes of the object that a step of kind 27 hands out.
+fn handed_out(module: &Module, old: &State, new: &State) -> Option<Range<usize>> {
+    let (_, function, instruction) = standing(module, old);
+    if instruction.kind != 27 {
+        return None;
+    }
+    let pointer = function.register_types[usize::from(instruction.a)];
+    let Term::Pointer { target, .. } = module.terms[usize::from(pointer)] else {
+        return None;
+    };
+    let frame = new.frames.last().expect("a frame");
+    let start = frame.registers[usize::from(instruction.a)] as usize;
+    Some(start..start + sizes(module).terms[usize::from(target)] as usize)
+}
+
+/// The page bytes that a step from one state to the next may write: those of the value stored,
+/// of the object handed out, or a page that is granted.
+fn may_write(module: &Module, old: &State, new: &State) -> Range<usize> {
+    let (frame, function, instruction) = standing(module, old);
     let granted = (0..PAGES).find(|&page| old.owners[page] != new.owners[page]);
     match (instruction.kind, granted) {
         (26, _) => {
@@ -156,6 +184,7 @@ fn may_write(module: &Module, old: &State, new: &State) -> Range<usize> {
             address..address + width
         }
         (27, Some(page)) => PAGE_BYTES * page..PAGE_BYTES * (page + 1),
+        (27, None) => handed_out(module, old, new).expect("kind 27 has a pointer"),
         _ => 0..0,
     }
 }

@@ -203,7 +203,7 @@ fn bad_input_writes_nothing() {
         let (found, out, error) = rcm(&folder, line);
         assert_eq!(found, status, "{line}\n{error}");
         // An answer that cannot be saved is shown.
-        assert!(out.is_empty() || out == "ended 263 11\n", "{line}\n{out}");
+        assert!(out.is_empty() || out == "ended 256 17\n", "{line}\n{out}");
         assert!(error.contains(message), "{line}\n{error}");
         assert_eq!(files(&folder), before, "{line}");
         assert_eq!(std::fs::read(folder.join("state")).expect("the state"), state, "{line}");
