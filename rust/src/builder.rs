@@ -165,6 +165,8 @@ pub mod code {
 
     pub const ADD: u32 = 0;
     pub const SUBTRACT: u32 = 1;
+    pub const AND: u32 = 3;
+    pub const RIGHT_SHIFT: u32 = 7;
     pub const QUOTIENT: u32 = 8;
     pub const SIGNED_QUOTIENT: u32 = 10;
     pub const LESS: u32 = 12;

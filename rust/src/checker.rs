@@ -175,7 +175,7 @@ impl<'t, 'm> Typing<'t, 'm> {
     }
 
     /// The target and region of a pointer register.
-    fn pointer(&self, register: u8) -> Option<(TypeId, Variable)> {
+    pub fn pointer(&self, register: u8) -> Option<(TypeId, Variable)> {
         match self.types.get(self.register(register)) {
             Type::Pointer(target, region) => Some((*target, *region)),
             _ => None,

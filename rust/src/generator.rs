@@ -6,10 +6,11 @@ use crate::builder::{self, code, FunctionBuilder, ModuleBuilder};
 use crate::checker::Typing;
 use crate::file::Record;
 use crate::module::{
-    Function, Instruction, Module, Name, Term, KIND_ARGUMENTS, KIND_CALL, MAX_LIST, MAX_REGIONS,
-    MAX_REGISTERS, MAX_TERMS,
+    Function, Instruction, Module, Name, Term, KIND_ARGUMENTS, KIND_CALL, MAX_INSTRUCTIONS,
+    MAX_LIST, MAX_REGIONS, MAX_REGISTERS, MAX_TERMS,
 };
 use crate::prng::Prng;
+use crate::state::PAGE_BYTES;
 use crate::types::{regions_used, sizes, Type, Types, Variable, MAX_SIZE, NO_SIZE};
 
 /// A module with what a run of it is lent.
@@ -98,8 +99,12 @@ fn draw_types(rng: &mut Prng) -> Module {
                 (Term::Pointer { target: inner, region }, 4)
             }
             40..60 => {
-                let most = if rng.percent(85) { 6 } else { MAX_SIZE };
-                let count = rng.between(1, (MAX_SIZE / bound).min(most) as usize) as u32;
+                let most = MAX_SIZE / bound;
+                let count = match rng.below(100) {
+                    0..80 => rng.between(1, most.min(6) as usize) as u32,
+                    80..94 => rng.between(1, most as usize) as u32,
+                    _ => most,
+                };
                 (Term::Array { element: inner, count }, bound * count)
             }
             _ if name_regions.is_empty() => continue,
@@ -150,13 +155,26 @@ fn parts(rng: &mut Prng, module: &mut Module, term: u8) -> Vec<u8> {
     }
 }
 
+/// The first or the last primitive of a term, regions put in.
+fn edge(rng: &mut Prng, module: &mut Module, term: u8, last: bool) -> u8 {
+    let inner = parts(rng, module, term);
+    match if last { inner.last() } else { inner.first() } {
+        Some(&inner) => edge(rng, module, inner, last),
+        None => term,
+    }
+}
+
 /// A term that uses only these regions; structs and arrays rather than integers.
 fn draw_region_type(rng: &mut Prng, module: &Module, scope: usize) -> u8 {
     let all = 0..module.terms.len() as u8;
     let fitting: Vec<u8> = all.filter(|&term| regions_used(module, term) <= scope).collect();
-    let rich: Vec<u8> = fitting.iter().copied().filter(|&term| term > 2).collect();
-    let rich = if rng.percent(80) { rng.pick(&rich) } else { None };
-    rich.or_else(|| rng.pick(&fitting)).expect("integers fit")
+    let several = |&term: &u8| !is_primitive(&module.terms[usize::from(term)]);
+    let rich: Vec<u8> = match rng.below(100) {
+        0..40 => fitting.iter().copied().filter(several).collect(),
+        40..80 => fitting.iter().copied().filter(|&term| term > 2).collect(),
+        _ => Vec::new(),
+    };
+    rng.pick(&rich).or_else(|| rng.pick(&fitting)).expect("integers fit")
 }
 
 /// The callee's region types with these regions put in equal the caller's.
@@ -281,6 +299,11 @@ fn draw_function(
             }
         };
         add(rng, module, part);
+        if rng.percent(50) {
+            let last = rng.percent(60);
+            let primitive = edge(rng, module, part, last);
+            add(rng, module, primitive);
+        }
         for _ in 0..rng.below(4) {
             let inner = parts(rng, module, part);
             let Some(chosen) = rng.pick(&inner) else { break };
@@ -320,6 +343,54 @@ struct Emitter<'t, 'm> {
     code: Vec<Instruction>,
 }
 
+/// The places of a page, from the first on, that a pool's code mostly looks at.
+const POOL_PLACES: u32 = 4;
+
+/// A page of objects that code stores into, frees, hands out again and reads, used or free.
+struct Pool {
+    /// The pointer register for kinds 27 and 28, and its object's size.
+    whole: u8,
+    size: u32,
+    /// The i32 registers for the page's address and for one in it.
+    page: u8,
+    address: u8,
+    parts: Vec<Part>,
+}
+
+/// A primitive of a pool's objects: a pointer register, one for its value, and where it lies.
+struct Part {
+    pointer: u8,
+    value: u8,
+    distances: Vec<u32>,
+}
+
+/// A primitive of one object in a pool's page.
+#[derive(Clone, Copy)]
+struct Site {
+    place: u32,
+    part: usize,
+    distance: u32,
+}
+
+impl Pool {
+    fn places(&self) -> u32 {
+        MAX_SIZE / self.size
+    }
+
+    /// The lowest or the highest primitive of a place that code can store to.
+    fn edge(&self, place: u32, last: bool) -> Site {
+        let all = self.parts.iter().enumerate().flat_map(|(part, of)| {
+            of.distances.iter().map(move |&distance| Site { place, part, distance })
+        });
+        let edge = if last {
+            all.max_by_key(|site| site.distance)
+        } else {
+            all.min_by_key(|site| site.distance)
+        };
+        edge.expect("a pool has a part, and a part a distance")
+    }
+}
+
 fn instruction(kind: u8, a: u8, b: u8, c: u8, d: u32) -> Instruction {
     Instruction { place: 0, kind, a, b, c, d, arguments: [0; MAX_LIST] }
 }
@@ -334,6 +405,11 @@ impl Emitter<'_, '_> {
             Term::Integer { width } => width,
             _ => 4,
         }
+    }
+
+    /// The largest value of an integer register.
+    fn largest(&self, register: u8) -> u32 {
+        u32::MAX >> (32 - 8 * u32::from(self.width(register)))
     }
 
     fn free_of(&self, registers: &[u8]) -> Vec<u8> {
@@ -409,16 +485,15 @@ impl Emitter<'_, '_> {
         let integers = self.free_of(&self.integers);
         let numbers = self.i32_registers();
         let pointers = self.pointers.clone();
-        match self.rng.below(130) {
+        match self.rng.below(134) {
             0..8 => {
                 let a = self.rng.pick(&integers)?;
-                let most = u32::MAX >> (32 - 8 * u32::from(self.width(a)));
                 let value = if self.rng.percent(60) {
                     self.rng.below(40) as u32
                 } else {
                     self.rng.word() as u32
                 };
-                self.constant(a, value & most);
+                self.constant(a, value & self.largest(a));
             }
             8..14 => {
                 let copy = if self.rng.percent(50) {
@@ -542,7 +617,8 @@ impl Emitter<'_, '_> {
                 // The code always goes on, so there is an instruction behind.
                 self.code[at].d = self.code.len() as u32;
             }
-            _ => self.emit_loop(6)?,
+            123..130 => self.emit_loop(6)?,
+            _ => self.emit_pool()?,
         }
         Some(())
     }
@@ -635,6 +711,156 @@ impl Emitter<'_, '_> {
         Some(())
     }
 
+    /// A pool that the registers can store into and load from.
+    fn find_pool(&mut self) -> Option<Pool> {
+        let mut numbers = self.i32_registers();
+        let page = self.rng.pick(&numbers)?;
+        numbers.retain(|&number| number != page);
+        let address = self.rng.pick(&numbers)?;
+        let pointers = self.pointers.clone();
+        let whole = self.pick_pair(27, &pointers, &[0])?.a;
+        let (object, region) = self.typing.pointer(whole)?;
+        let mut values = [self.free_of(&self.integers), pointers.clone()].concat();
+        values.retain(|&value| value != page);
+        let mut parts = Vec::new();
+        for &pointer in &pointers {
+            let (target, its_region) = self.typing.pointer(pointer)?;
+            if its_region != region {
+                continue;
+            }
+            let lies = self.typing.types.run_distances(target, object);
+            let distances: Vec<u32> = (0..).zip(lies).filter(|at| at.1).map(|at| at.0).collect();
+            for &value in &values {
+                if !distances.is_empty() && self.typed(&instruction(26, pointer, value, 0, 0)) {
+                    parts.push(Part { pointer, value, distances: distances.clone() });
+                }
+            }
+        }
+        let size = self.typing.types.size(object);
+        (!parts.is_empty()).then_some(Pool { whole, size, page, address, parts })
+    }
+
+    /// The first, the last or any of a part's primitives, in an object that is likely near another.
+    fn draw_site(&mut self, pool: &Pool) -> Site {
+        let near = self.rng.below(pool.places().min(POOL_PLACES) as usize) as u32;
+        let place = if self.rng.percent(92) { near } else { pool.places() - 1 };
+        let part = self.rng.below(pool.parts.len());
+        let distances = &pool.parts[part].distances;
+        let chosen = match self.rng.below(3) {
+            0 => 0,
+            1 => distances.len() - 1,
+            _ => self.rng.below(distances.len()),
+        };
+        Site { place, part, distance: distances[chosen] }
+    }
+
+    /// A pointer into the pool's page by kind 22, which asks for no mark.
+    fn point(&mut self, pool: &Pool, pointer: u8, offset: u32) {
+        self.constant(pool.address, offset);
+        self.code.push(instruction(18, pool.address, pool.page, pool.address, code::ADD));
+        self.code.push(instruction(22, pointer, pool.address, 0, 0));
+        self.set_filled(pointer, true);
+    }
+
+    /// Stores a value without a zero byte.
+    fn store_at(&mut self, pool: &Pool, site: Site) {
+        let Part { pointer, value, .. } = pool.parts[site.part];
+        if self.pointers.contains(&value) {
+            let _may_stay_zero = self.fill(value);
+        }
+        self.point(pool, pointer, site.place * pool.size + site.distance);
+        if self.integers.contains(&value) {
+            let bytes = self.rng.word() as u32 | 0x0101_0101;
+            self.constant(value, bytes & self.largest(value));
+        }
+        self.code.push(instruction(26, pointer, value, 0, 0));
+    }
+
+    /// Loads a value and gives one of its bytes to the output, where registers allow.
+    fn show_at(&mut self, pool: &Pool, site: Site) -> Option<()> {
+        let Part { pointer, value, .. } = pool.parts[site.part];
+        self.point(pool, pointer, site.place * pool.size + site.distance);
+        self.code.push(instruction(25, value, pointer, 0, 0));
+        self.set_filled(value, false);
+        let of_width_1 = |register: &u8| self.width(*register) == 1;
+        let bytes: Vec<u8> = self.free_of(&self.integers).into_iter().filter(of_width_1).collect();
+        let byte = self.rng.pick(&bytes)?;
+        let number = pool.address;
+        let to_number = if self.pointers.contains(&value) { 21 } else { 19 };
+        self.code.push(instruction(to_number, number, value, 0, 0));
+        let mut others = self.i32_registers();
+        others.retain(|&other| other != number);
+        let lower = self.rng.below(usize::from(self.width(value))) as u32;
+        if let Some(bits) = self.rng.pick(&others) {
+            self.constant(bits, 8 * lower);
+            self.code.push(instruction(18, number, number, bits, code::RIGHT_SHIFT));
+        }
+        self.code.push(instruction(19, byte, number, 0, 0));
+        self.code.push(instruction(30, 0, byte, 0, 0));
+        Some(())
+    }
+
+    fn free_at(&mut self, pool: &Pool, place: u32) {
+        self.point(pool, pool.whole, place * pool.size);
+        self.code.push(instruction(28, pool.whole, 0, 0, 0));
+    }
+
+    /// Hands a place out again, if no lower one is free, with bytes stored in it and right beside it,
+    /// of which one is shown.
+    fn refill_at(&mut self, pool: &Pool, place: u32) -> Option<()> {
+        let mut sites = vec![pool.edge(place, false), pool.edge(place, true)];
+        if place > 0 {
+            sites.push(pool.edge(place - 1, true));
+        }
+        if place + 1 < pool.places() {
+            sites.push(pool.edge(place + 1, false));
+        }
+        self.free_at(pool, place);
+        for &site in &sites {
+            self.store_at(pool, site);
+        }
+        self.code.push(instruction(27, pool.whole, 0, 0, 0));
+        let site = self.rng.pick(&sites)?;
+        self.show_at(pool, site)
+    }
+
+    /// Frees and refills a pool, with stores into its objects and loads from them before and after.
+    fn emit_pool(&mut self) -> Option<()> {
+        if self.code.len() > MAX_INSTRUCTIONS / 2 {
+            return None;
+        }
+        let pool = self.find_pool()?;
+        let new = instruction(27, pool.whole, 0, 0, 0);
+        for _ in 0..self.rng.between(1, 3) {
+            self.code.push(new);
+        }
+        self.set_filled(pool.whole, true);
+        self.code.push(instruction(21, pool.page, pool.whole, 0, 0));
+        self.constant(pool.address, !(PAGE_BYTES as u32 - 1));
+        self.code.push(instruction(18, pool.page, pool.page, pool.address, code::AND));
+        self.reserved.push(pool.page);
+        let mut site = self.draw_site(&pool);
+        for _ in 0..self.rng.between(3, 9) {
+            match self.rng.below(10) {
+                0..3 => self.store_at(&pool, site),
+                3..5 => self.free_at(&pool, site.place),
+                5..7 => self.code.push(new),
+                7 => {
+                    let _may_stay_hidden = self.refill_at(&pool, site.place);
+                }
+                8 => {
+                    let _may_stay_hidden = self.show_at(&pool, site);
+                }
+                _ => self.emit_some(2),
+            }
+            if self.rng.percent(40) {
+                site = self.draw_site(&pool);
+            }
+        }
+        self.reserved.pop();
+        Some(())
+    }
+
     /// Runs into one of the limits: pages, output, frames.
     fn emit_limit(&mut self) -> Option<()> {
         let pointers = self.pointers.clone();
@@ -651,6 +877,9 @@ impl Emitter<'_, '_> {
     }
 
     fn emit_body(mut self, length: usize) -> Vec<Instruction> {
+        if self.rng.percent(25) {
+            self.emit_pool();
+        }
         self.emit_some(length);
         if self.rng.percent(4) {
             self.emit_limit();

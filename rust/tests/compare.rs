@@ -1,8 +1,13 @@
 //! The comparison itself: it finds no difference with this interpreter, and notices each of
 //! several that err in one point.
 
+mod common;
+
+use common::{object_of, standing};
 use reference::compare::{compare, Interface, Reference};
 use reference::host::{self, Answer};
+use reference::module::{decode, Module};
+use reference::state::{State, MEMORY_AT, MEMORY_BYTES, RUNNING};
 
 /// Errs in one point, else as the reference.
 #[derive(Clone, Copy, PartialEq, Debug)]
@@ -19,6 +24,81 @@ enum Erring {
     Test,
     /// The reader gives the part of the object from the address on.
     Object,
+    /// Kind 27 leaves the object as it was.
+    Keeps,
+    /// Kind 27 leaves the first byte, or the last.
+    KeepsFirst,
+    KeepsLast,
+    /// Kind 27 clears also the byte before the object, or the one behind it.
+    ClearsBefore,
+    ClearsBehind,
+    /// The object is cleared when it is freed, too.
+    ClearsFreed,
+}
+
+/// Steps of a call that go one by one; the rest goes at once and as it should.
+const SINGLE_STEPS: u64 = 100;
+
+impl Erring {
+    /// What the wrong machine leaves in memory after one step of the right one.
+    fn spoil(self, module: &Module, old: &State, state: &mut [u8]) {
+        let (_, _, instruction) = standing(module, old);
+        let new = State::from_bytes(state).expect("a state");
+        let memory = &mut state[MEMORY_AT..];
+        match instruction.kind {
+            // A page that was granted is zero for another reason.
+            27 if new.status == RUNNING && new.owners == old.owners => {
+                let object = object_of(module, &new, instruction);
+                let kept = match self {
+                    Erring::Keeps => object,
+                    Erring::KeepsFirst => object.start..object.start + 1,
+                    Erring::KeepsLast => object.end - 1..object.end,
+                    Erring::ClearsBefore => return memory[object.start - 1] = 0,
+                    Erring::ClearsBehind if object.end < MEMORY_BYTES => {
+                        return memory[object.end] = 0;
+                    }
+                    _ => return,
+                };
+                memory[kept.clone()].copy_from_slice(&old.memory[kept]);
+            }
+            28 if self == Erring::ClearsFreed => {
+                memory[object_of(module, old, instruction)].fill(0);
+            }
+            _ => (),
+        }
+    }
+
+    fn go_by_steps(
+        self,
+        file: &[u8],
+        form: &[u8],
+        state: &mut [u8],
+        output: &mut [u8],
+        budget: u64,
+    ) -> Answer {
+        let (Ok(module), Ok(_)) = (decode(file), State::from_bytes(state)) else {
+            return Reference.go(file, form, state, output, budget);
+        };
+        let mut steps = 0;
+        while steps < budget.min(SINGLE_STEPS) {
+            let old = State::from_bytes(state).expect("a state");
+            let mut answer = Reference.go(file, form, state, output, 1);
+            if answer[0] == host::REFUSED {
+                return answer;
+            }
+            self.spoil(&module, &old, state);
+            steps += 1;
+            if answer[0] != host::STILL_RUNNING {
+                answer[2] = steps;
+                return answer;
+            }
+        }
+        let mut answer = Reference.go(file, form, state, output, budget - steps);
+        if answer[0] != host::REFUSED {
+            answer[2] += steps;
+        }
+        answer
+    }
 }
 
 impl Interface for Erring {
@@ -45,6 +125,10 @@ impl Interface for Erring {
         output: &mut [u8],
         budget: u64,
     ) -> Answer {
+        use Erring::{ClearsBefore, ClearsBehind, ClearsFreed, Keeps, KeepsFirst, KeepsLast};
+        if let Keeps | KeepsFirst | KeepsLast | ClearsBefore | ClearsBehind | ClearsFreed = self {
+            return self.go_by_steps(file, form, state, output, budget);
+        }
         let mut answer = Reference.go(file, form, state, output, budget);
         answer[2] += u64::from(*self == Erring::Steps && answer[..2] == [host::STOPPED, 33]);
         if *self == Erring::Output && answer[..2] == [host::REFUSED, 22] {
@@ -82,5 +166,15 @@ fn errors_are_noticed() {
     use Erring::{Object, Open, Output, Place, Steps, Test};
     for mut erring in [Place, Open, Steps, Output, Test, Object] {
         assert!(!compare(&mut erring, 4, 0, 400).differences.is_empty(), "{erring:?}");
+    }
+}
+
+#[test]
+fn errors_of_kind_27_are_noticed() {
+    use Erring::{ClearsBefore, ClearsBehind, ClearsFreed, Keeps, KeepsFirst, KeepsLast};
+    for mut erring in [Keeps, KeepsFirst, KeepsLast, ClearsBefore, ClearsBehind, ClearsFreed] {
+        let differences = compare(&mut erring, 4, 0, 300).differences.len();
+        println!("{erring:?}: {differences} modules differ");
+        assert!(differences >= 3, "{erring:?}: {differences}");
     }
 }

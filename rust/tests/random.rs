@@ -3,17 +3,19 @@
 //! bytes than its own, objects are handed out clean, and states changed by hand are refused or go on
 //! soundly.
 
+mod common;
+
+use common::{object_of, standing};
 use reference::calls;
 use reference::damage::{change_state, damage};
 use reference::file::Refusal;
 use reference::generator::{draw, Sample};
 use reference::host;
 use reference::machine::{Outcome, Run};
-use reference::module::{decode, Function, Instruction, Module, Term};
+use reference::module::{decode, Module, Term};
 use reference::prng::Prng;
-use reference::state::{Frame, State, MEMORY_BYTES, OUTPUT_BYTES, PAGES, PAGE_BYTES, STATE_BYTES};
+use reference::state::{State, MEMORY_BYTES, OUTPUT_BYTES, PAGES, PAGE_BYTES, STATE_BYTES};
 use reference::tally::Tally;
-use reference::types::sizes;
 use std::ops::Range;
 
 /// A module with its state and output, as a host keeps them.
@@ -143,29 +145,10 @@ fn each_step_changes_only_what_it_may() {
     }
 }
 
-/// The instruction that a state stands at, with its frame and function.
-fn standing<'s>(
-    module: &'s Module,
-    state: &'s State,
-) -> (&'s Frame, &'s Function, &'s Instruction) {
-    let frame = state.frames.last().expect("a frame");
-    let function = &module.functions[usize::from(frame.function)];
-    (frame, function, &function.code[usize::from(frame.instruction)])
-}
-
 /// The bytes of the object that a step of kind 27 hands out.
 fn handed_out(module: &Module, old: &State, new: &State) -> Option<Range<usize>> {
-    let (_, function, instruction) = standing(module, old);
-    if instruction.kind != 27 {
-        return None;
-    }
-    let pointer = function.register_types[usize::from(instruction.a)];
-    let Term::Pointer { target, .. } = module.terms[usize::from(pointer)] else {
-        return None;
-    };
-    let frame = new.frames.last().expect("a frame");
-    let start = frame.registers[usize::from(instruction.a)] as usize;
-    Some(start..start + sizes(module).terms[usize::from(target)] as usize)
+    let (_, _, instruction) = standing(module, old);
+    (instruction.kind == 27).then(|| object_of(module, new, instruction))
 }
 
 /// The page bytes that a step from one state to the next may write: those of the value stored,
@@ -184,7 +167,7 @@ fn may_write(module: &Module, old: &State, new: &State) -> Range<usize> {
             address..address + width
         }
         (27, Some(page)) => PAGE_BYTES * page..PAGE_BYTES * (page + 1),
-        (27, None) => handed_out(module, old, new).expect("kind 27 has a pointer"),
+        (27, None) => object_of(module, new, instruction),
         _ => 0..0,
     }
 }

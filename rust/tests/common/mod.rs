@@ -1,5 +1,6 @@
 //! A module with its buffers, as the tests of the machine and of the state run it, the terms that
-//! their modules begin with, and the tool `rcm` as its tests run it. Each test file uses a part.
+//! their modules begin with, the instruction that a state stands at, and the tool `rcm` as its tests
+//! run it. Each test file uses a part.
 #![allow(dead_code)]
 
 use reference::builder::{record, FunctionBuilder, ModuleBuilder};
@@ -7,8 +8,11 @@ use reference::calls;
 use reference::compare::Interface;
 use reference::file::Record;
 use reference::host::{self, Answer};
-use reference::state::{State, OUTPUT_BYTES, STATE_BYTES};
+use reference::module::{Function, Instruction, Module, Term};
+use reference::state::{Frame, State, OUTPUT_BYTES, STATE_BYTES};
 use reference::tool;
+use reference::types::sizes;
+use std::ops::Range;
 use std::path::{Path, PathBuf};
 
 pub const I32: u8 = 0;
@@ -98,6 +102,29 @@ pub fn run(module: &ModuleBuilder, function: &FunctionBuilder) -> Answer {
     let mut module = module.clone();
     module.function(function);
     Session::open(module.file(), &[]).go(1_000_000)
+}
+
+/// The instruction that a state stands at, with its frame and function.
+pub fn standing<'s>(
+    module: &'s Module,
+    state: &'s State,
+) -> (&'s Frame, &'s Function, &'s Instruction) {
+    let frame = state.frames.last().expect("a frame");
+    let function = &module.functions[usize::from(frame.function)];
+    (frame, function, &function.code[usize::from(frame.instruction)])
+}
+
+/// The bytes of the object that the top frame's register of a kind 27, after its step, or of a kind
+/// 28, before its step, points to.
+pub fn object_of(module: &Module, state: &State, instruction: &Instruction) -> Range<usize> {
+    let frame = state.frames.last().expect("a frame");
+    let function = &module.functions[usize::from(frame.function)];
+    let pointer = function.register_types[usize::from(instruction.a)];
+    let Term::Pointer { target, .. } = module.terms[usize::from(pointer)] else {
+        panic!("kinds 27 and 28 have a pointer");
+    };
+    let start = frame.registers[usize::from(instruction.a)] as usize;
+    start..start + sizes(module).terms[usize::from(target)] as usize
 }
 
 /// The proved library with the feature `librcm`, else the reference interpreter in its place.
