@@ -143,6 +143,19 @@ fn arguments_trace_and_progress() {
 }
 
 #[test]
+fn traces_show_what_is_handed_out() {
+    let folder = folder("new");
+    example(&folder, "pool.asm");
+    let out = rcm(&folder, "run @module @form --trace 17").1;
+    let line = |number: usize| out.lines().nth(number - 1).expect("a step");
+    // Of a granted page, of a page with zeros there, and the first object again.
+    assert!(line(1).ends_with("r0 = new                      r0 = 256"), "{out}");
+    assert!(line(2).ends_with("r1 = new                      r1 = 260"), "{out}");
+    assert!(line(8).ends_with("r2 = check r4                 r2 = 256"), "{out}");
+    assert!(line(12).ends_with("r2 = new                      r2 = 256, cleared"), "{out}");
+}
+
+#[test]
 fn stops_are_explained() {
     let folder = folder("stop");
     example(&folder, "stops/33-index.asm");

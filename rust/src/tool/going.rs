@@ -5,8 +5,8 @@ use super::{counted, explain, print, read, write, Outcome, Session, Words};
 use super::{BAD_INPUT, DONE, REFUSED, RUNNING, STOPPED};
 use crate::compare::Interface;
 use crate::host::{self, Answer};
-use crate::module::{decode, Module};
-use crate::state::{State, OUTPUT_BYTES, STATE_BYTES};
+use crate::module::{decode, Module, MAX_REGISTERS};
+use crate::state::{self, State, OUTPUT_BYTES, STATE_BYTES};
 use crate::text::Listing;
 use std::path::Path;
 
@@ -234,7 +234,8 @@ fn traced(
     text
 }
 
-/// One step: its number, function and instruction, and the registers that it changes.
+/// One step: its number, function and instruction, and the register that it changes. A new object's
+/// register is shown also where it had that address before, and so is whether bytes were cleared.
 fn step_text(module: &Module, step: u64, before: &State, after: Option<&State>) -> String {
     let Some(frame) = before.frames.last() else {
         return String::new();
@@ -245,8 +246,16 @@ fn step_text(module: &Module, step: u64, before: &State, after: Option<&State>) 
     let depth = before.frames.len();
     let changed = after.and_then(|after| {
         let now = after.frames.get(depth - 1)?;
-        let register = (0..28).find(|&i| now.registers[i] != frame.registers[i])?;
-        Some(format!("r{register} = {}", now.registers[register]))
+        let handed_out = instruction.kind == 27 && after.status == state::RUNNING;
+        let register = if handed_out {
+            usize::from(instruction.a)
+        } else {
+            (0..MAX_REGISTERS).find(|&i| now.registers[i] != frame.registers[i])?
+        };
+        // Without a grant only the object's own bytes can have changed.
+        let reused = handed_out && after.owners == before.owners;
+        let cleared = if reused && after.memory != before.memory { ", cleared" } else { "" };
+        Some(format!("r{register} = {}{cleared}", now.registers[register]))
     });
     let place = format!("f{}:{}", frame.function, frame.instruction);
     let line = format!("{step:>9}  {place:8} {:indent$}{text}", "", indent = depth - 1);
