@@ -2,10 +2,10 @@
 // object writes. The state is trusted: nothing is tested that an accepted module and a tested state guarantee.
 ghost use mathlib.Core.Path.{_≡_};
 ghost use mathlib.Core.List.{[], _∷_};
-ghost use Prim.Native.Nat.{suc, _<_, _≤_};
+ghost use Prim.Native.Nat.{suc, _+_, _*_, _<_, _≤_};
 ghost use lib.ListN.{length};
 ghost use Rattle.rules.specs.Limits.{stateBytes, pages, pageBytes, firstPage, pastPage, liveRegions, markBytes};
-ghost use Rattle.rules.specs.State.{view, pageOwner, pageMark, written, putOwner, putMark, clearPage};
+ghost use Rattle.rules.specs.State.{view, pageOwner, pageMark, written, putOwner, putMark, clearMemory, clearPage};
 ghost use Rattle.rules.specs.Heap.{placesInPage};
 ghost use Rattle.rules.specs.Step.{unownedPage};
 ghost use Rattle.state.specs.Marks.{lowestZero};
@@ -16,7 +16,7 @@ ghost use Rattle.pages.specs.Meaning.{chosen, Within};
 use state::LiveRegion;
 use state::Machine;
 use state::fields::clear_mark;
-use state::fields::clear_page;
+use state::fields::clear_memory;
 use state::fields::owner;
 use state::fields::put_owner;
 use state::fields::set_mark;
@@ -175,12 +175,16 @@ pub fn forget(known: &mut [u32; KNOWN], q: u32, j: u32)
 
 // ---- writes
 
-// Place j of page p is used now.
-pub fn take_place(s: &mut [u8], p: u32, j: u32)
-    requires { ⌜ (length (now s) ≡ stateBytes) × ((p < pages) × (j < pageBytes)) ⌝ }
-    ensures { λ _. ⌜ now (s .exit) ≡ written (putMark (now (s .entry)) p j 1 ∷ []) (now (s .entry)) ⌝ }
+// Place j of page p, of n bytes, is used now and all zeros; its address.
+pub fn take_place(s: &mut [u8], p: u32, j: u32, n: u32) -> u32
+    requires { ⌜ (length (now s) ≡ stateBytes) × (p < pages) × (j < pageBytes) × (n * j + n ≤ pageBytes) ⌝ }
+    ensures { λ x. ⌜ (x ≡ pageBytes * p + n * j) × (now (s .exit) ≡ written (putMark (now (s .entry)) p j 1 ∷ clearMemory (pageBytes * p + n * j) n ∷ []) (now (s .entry))) ⌝ }
 {
     set_mark(s, p, j);
+    let page = Machine::PAGE_BYTES * p;
+    let x = page + n * j;
+    clear_memory(s, x, n);
+    x
 }
 
 // Place j of page p is free now.
@@ -196,7 +200,7 @@ pub fn grant_page(s: &mut [u8], p: u32, r: LiveRegion)
     requires { ⌜ (length (now s) ≡ stateBytes) × (p < pages) × (r .0 < liveRegions) ⌝ }
     ensures { λ _. ⌜ now (s .exit) ≡ written (clearPage p ∷ putOwner p (suc (r .0)) ∷ putMark (now (s .entry)) p 0 1 ∷ []) (now (s .entry)) ⌝ }
 {
-    clear_page(s, p);
+    clear_memory(s, Machine::PAGE_BYTES * p, Machine::PAGE_BYTES);
     put_owner(s, p, r.0 + 1);
     set_mark(s, p, 0);
 }

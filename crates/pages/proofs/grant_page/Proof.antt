@@ -7,8 +7,11 @@ use borrow.Author.Needs.{needs}
 use Rattle.pages.proofs.grant_page.Statement.{statement}
 use Rattle.pages.proofs.grant_page.Tie as tie
 
-clear-page-requires : tie.Need-clear-page-requires
-clear-page-requires c κs = search needs
+mul-clear-memory : tie.Need-mul-clear-memory
+mul-clear-memory c = search needs
+
+clear-memory-requires : tie.Need-clear-memory-requires
+clear-memory-requires c κs = search needs
 
 add-put-owner : tie.Need-add-put-owner
 add-put-owner c = search needs
@@ -23,13 +26,14 @@ same-length : tie.Need-same-length
 same-length c = search needs
 
 returns : tie.Need-returns
-returns c = rw (← add-one (c .before .before .before .before .before .before .before .before .before .before .before .before .before .before .args .r .0)) ((rw (c .before .before .before .before .before .before .put-owner .ensures, c .before .before .before .before .before .before .before .before .before .before .before .clear-page .ensures) at (c .before .before .set-mark .ensures)) ∙ grant-written (c .before .before .before .before .before .before .before .before .before .before .before .before .before .before .args .s .now) (c .before .before .before .before .before .before .before .before .before .before .before .before .before .before .args .p) (c .before .before .before .before .before .before .before .before .before .before .before .before .before .before .args .r .0 + 1) (c .before .before .before .before .before .before .before .before .before .before .before .before .before .before .pre .1))
+returns c = rw (← add-one (c .before .before .before .before .before .before .before .before .before .before .before .before .before .before .args .r .0)) ((rw (c .before .before .before .before .before .before .put-owner .ensures, c .before .before .before .before .before .before .before .before .before .before .before .clear-memory .ensures) at (c .before .before .set-mark .ensures)) ∙ grant-written (c .before .before .before .before .before .before .before .before .before .before .before .before .before .before .args .s .now) (c .before .before .before .before .before .before .before .before .before .before .before .before .before .before .args .p) (c .before .before .before .before .before .before .before .before .before .before .before .before .before .before .args .r .0 + 1) (c .before .before .before .before .before .before .before .before .before .before .before .before .before .before .pre .1))
 
 pub grant-page-spec : {M : Type 1} → statement M
 grant-page-spec =
     tie.close
     (tie.spec
-    clear-page-requires
+    mul-clear-memory
+    clear-memory-requires
     add-put-owner
     put-owner-requires
     set-mark-requires
