@@ -1,12 +1,11 @@
--- `pages::take_place` meets its contract: the mark, then the zeros.
-use mathlib.Core.Path.{refl}
-use Rattle.rules.specs.State.{written}
+-- `pages::take_place` meets its contract: the zeros leave the marks.
+use mathlib.Core.Path.{refl, _∙_}
+use Prim.Native.Nat.{_+_, _*_}
+use Rattle.rules.specs.Limits.{pageBytes}
+use Rattle.pages.specs.Places.{take-written}
 use borrow.Author.Needs.{needs}
 use Rattle.pages.proofs.take_place.Statement.{statement}
 use Rattle.pages.proofs.take_place.Tie as tie
-
-set-mark-requires : tie.Need-set-mark-requires
-set-mark-requires c κs = search needs
 
 mul-page : tie.Need-mul-page
 mul-page c = search needs
@@ -20,14 +19,16 @@ add-x c = search needs
 clear-memory-requires : tie.Need-clear-memory-requires
 clear-memory-requires c κs = search needs
 
+set-mark-requires : tie.Need-set-mark-requires
+set-mark-requires c κs = search needs
+
 same-length : tie.Need-same-length
 same-length c = search needs
 
 returns : tie.Need-returns
-unfolding written
-returns c = (refl, rw (c .before .before .before .before .before .before .set-mark .ensures) at (c .before .before .clear-memory .ensures))
+returns c = (refl, (rw (c .before .before .before .before .before .before .clear-memory .ensures) at (c .before .before .set-mark .ensures)) ∙ take-written (c .before .before .before .before .before .before .before .before .before .args .s .now) (c .before .before .before .before .before .before .before .before .before .args .p) (c .before .before .before .before .before .before .before .before .before .args .j) (pageBytes * c .before .before .before .before .before .before .before .before .before .args .p + c .before .before .before .before .before .before .before .before .before .args .n * c .before .before .before .before .before .before .before .before .before .args .j) (c .before .before .before .before .before .before .before .before .before .args .n) (c .before .before .before .before .before .before .before .before .before .pre .1) (c .before .before .before .before .before .before .before .before .before .pre .2))
 
 pub take-place-spec : {M : Type 1} → statement M
 take-place-spec =
     tie.close
-    (tie.spec set-mark-requires mul-page mul-x add-x clear-memory-requires same-length returns)
+    (tie.spec mul-page mul-x add-x clear-memory-requires set-mark-requires same-length returns)
