@@ -175,8 +175,8 @@ pub fn forget(known: &mut [u32; KNOWN], q: u32, j: u32)
 
 // ---- writes
 
-// Place j of page p, of n bytes, is used now and all zeros; its address. (The zeros come first: behind the mark they cost every step of the
-// loop registers.)
+// Place j of page p, of n bytes, is used now and all zeros; its address. (The zeros come before the mark: the other way round the loop of
+// steps keeps less in registers.)
 pub fn take_place(s: &mut [u8], p: u32, j: u32, n: u32) -> u32
     requires { ⌜ (length (now s) ≡ stateBytes) × (p < pages) × (j < pageBytes) × (n * j + n ≤ pageBytes) ⌝ }
     ensures { λ x. ⌜ (x ≡ pageBytes * p + n * j) × (now (s .exit) ≡ written (putMark (now (s .entry)) p j 1 ∷ clearMemory (pageBytes * p + n * j) n ∷ []) (now (s .entry))) ⌝ }

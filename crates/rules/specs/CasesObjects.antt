@@ -1,13 +1,12 @@
--- Document 02, P1, as it is claimed of a step: which addresses lie in which place, what hands a place out, and steps that the claim
--- excludes, by computation. Assumes nothing.
+-- Document 02, P1, as it is claimed of a step: which addresses lie in which place, what an effect clears, what hands a place out, and
+-- steps that the claim excludes, by computation. Assumes nothing.
 use mathlib.Core.Path.{_≡_, refl}
 use mathlib.Core.Bool.{Bool, true, false}
-use mathlib.Core.Logic.{inl, inr, _≢_}
+use mathlib.Core.Logic.{inl, inr}
 use mathlib.Core.List.{[], _∷_}
 use Prim.Native.Nat.{ℕ, suc, _+_, _*_}
 use native.Mathlib.Decide.{ℕ-discrete, decLt, decLe}
 use native.Mathlib.Omega.{arith}
-use lib.ListN.{replicate}
 use Rattle.words.specs.Bytes.{Bytes, number, little, splice, listFrom}
 use Rattle.words.specs.Bits.{bit, withBit}
 use Rattle.words.specs.Decide.{does, does-true, mapDec, decBoth}
@@ -16,16 +15,16 @@ use Rattle.rules.specs.Types.{sub}
 use Rattle.rules.specs.Module.{Module}
 use Rattle.words.specs.First.{firstFrom, first}
 use Rattle.rules.specs.Flat.{beside, copiesOf, copies, subLayout, flatWith, fieldsFrom, fieldsWith, layouts, flat}
-use Rattle.rules.specs.State.{View, view, putMark, written, frameFunction, frameInstruction, frameRegister, frameMap, pageOwner, pageMark, memoryByte, wordsOf, frameOf}
+use Rattle.rules.specs.State.{View, view, putOwner, putMark, written, frameFunction, frameInstruction, frameRegister, frameMap, pageOwner, pageMark, memoryByte, wordsOf, frameOf}
 use Rattle.rules.specs.Heap.{decLocal, decLive, look, typeOf}
 use Rattle.rules.specs.Host.{firstRegister, firstState}
-use Rattle.rules.specs.Step.{Effect, save, takePlace, grantPage, freePlace, isIn, lowest, lowestNumbers}
+use Rattle.rules.specs.Step.{Effect, save, takePlace, grantPage, freePlace, goTo, isIn, lowest, lowestNumbers}
 use Rattle.rules.specs.Writes.{stateWrites, applyState}
 use Rattle.rules.specs.Footprint.{span, noBytes, footprint}
 use Rattle.rules.specs.Run.{Step}
-use Rattle.rules.specs.SafeStep.{InObject, InPlace, placeBytes, HandsOut, place, page, NewZero, FreeKept, UsedKept}
+use Rattle.rules.specs.SafeStep.{InObject, InPlace, placeBytes, HandsOut, place, page, NewZero, FreeKept, UsedKept, Taken, UsedStays}
 use Rattle.rules.specs.CaseStates.{cells}
-use Rattle.rules.specs.CasesMachine.{nines}
+use Rattle.rules.specs.CasesMachine.{nines, ninesStep}
 
 -- ---- places
 
@@ -78,14 +77,14 @@ places = record {
 
 -- ---- what an effect clears and grants
 
-pub record Clearing : Type 0 where
+pub record Footprints : Type 0 where
   pub taken : footprint (takePlace 1 5 5 0) .clears ≡ span 281 5
   pub granted : footprint (grantPage 2 0 0) .clears ≡ span 512 256
   pub freed : footprint (freePlace 1 5) .clears ≡ noBytes
   pub grants : (footprint (grantPage 2 0 0) .grants ≡ 1) × (footprint (takePlace 1 5 5 0) .grants ≡ 0)
 
-pub clearing : Clearing
-clearing = record {
+pub footprints : Footprints
+footprints = record {
   taken = refl;
   granted = refl;
   freed = refl;
@@ -137,9 +136,12 @@ handing = record {
 abbrev pub stepFrom : Bytes → Effect → Step
 stepFrom s e = record { form = []; state = s; output = []; top = 0; effect = e }
 
--- the state of nines with place 5 used
+-- the state of nines with place 5 used; with page 2 owned too, and its place 5 used
 unfoldable pub withUsed : Bytes
 withUsed = written (putMark nines 1 5 1 ∷ []) nines
+
+unfoldable pub withUsedNext : Bytes
+withUsedNext = written (putOwner 2 1 ∷ putMark nines 2 5 1 ∷ []) nines
 
 in-place : (s : Bytes) (p j i : ℕ) → inPlaceOf s p j i ≡ true → InPlace (cells []) (view s) p j i
 unfolding inPlaceOf
@@ -151,12 +153,18 @@ pub record Excluded : Type 0 where
   pub last-byte-kept : ¬ NewZero (cells []) (stepFrom nines (takePlace 1 0 4 0))
   -- with more: its free neighbour is cleared
   pub neighbour-cleared : ¬ FreeKept (cells []) (stepFrom nines (takePlace 1 0 10 0))
-  -- a used object, handed out again; a page with one, granted again
+  -- a used object, cleared as it is handed out again, or as its page is granted again
   pub used-handed-out : ¬ UsedKept (cells []) (stepFrom withUsed (takePlace 1 5 5 0))
   pub used-granted : ¬ UsedKept (cells []) (stepFrom withUsed (grantPage 1 0 0))
+  -- what is handed out was used; or is not used afterwards; or another address is in the register
+  pub taken-used : ¬ Taken (cells []) (stepFrom withUsed (takePlace 1 5 5 0)) 1 5 0
+  pub taken-unmarked : ¬ Taken (cells []) (ninesStep 0 281 (goTo 1)) 1 5 0
+  pub taken-elsewhere : ¬ Taken (cells []) (stepFrom nines (takePlace 1 5 4 0)) 1 5 0
+  -- a free that takes the mark of another page's object: place 261 of page 1 would be place 5 of page 2
+  pub other-freed : ¬ UsedStays (cells []) (stepFrom withUsedNext (freePlace 1 261))
 
 pub excluded : Excluded
-unfolding inPlaceOf decInPlace decInObject stateWrites applyState withUsed bit withBit number little splice listFrom mapDec decBoth decLocal decLive look typeOf firstFrom first beside copiesOf copies subLayout flatWith fieldsFrom fieldsWith layouts flat frameFunction frameInstruction frameRegister frameMap pageOwner pageMark memoryByte view written wordsOf frameOf firstRegister firstState nines lowestNumbers lowest isIn sub decLt decLe ℕ-discrete
+unfolding inPlaceOf decInPlace decInObject stateWrites applyState withUsed withUsedNext ninesStep bit withBit number little splice listFrom mapDec decBoth decLocal decLive look typeOf firstFrom first beside copiesOf copies subLayout flatWith fieldsFrom fieldsWith layouts flat frameFunction frameInstruction frameRegister frameMap pageOwner pageMark memoryByte view written wordsOf frameOf firstRegister firstState nines lowestNumbers lowest isIn sub decLt decLe ℕ-discrete
 excluded = record {
   as-it-was = λ h. let z : _≡_ {A = ℕ} 9 0 = h 1 0 256 (in-place nines 1 0 256 refl) (place 0 0 refl) in absurd (omega arith);
   last-byte-kept = λ h. let z : _≡_ {A = ℕ} 9 0 = h 1 0 260 (in-place nines 1 0 260 refl) (place 4 0 refl) in absurd (omega arith);
@@ -169,4 +177,14 @@ excluded = record {
   ];
   used-handed-out = λ h. let w = h 1 5 281 (in-place withUsed 1 5 281 refl) (λ e. let z : _≡_ {A = ℕ} 1 0 = e in absurd (omega arith)) (λ e. let z : _≡_ {A = ℕ} 0 9 = e in absurd (omega arith)) in absurd (omega (arith, w));
   used-granted = λ h. let w = h 1 5 281 (in-place withUsed 1 5 281 refl) (λ e. let z : _≡_ {A = ℕ} 1 0 = e in absurd (omega arith)) (λ e. let z : _≡_ {A = ℕ} 0 9 = e in absurd (omega arith)) in absurd (omega (arith, w));
+  taken-used = λ h. let z : _≡_ {A = ℕ} 1 0 = h .free in absurd (omega arith);
+  taken-unmarked = λ h. absurd (h .used refl);
+  taken-elsewhere = λ h. let z : _≡_ {A = ℕ} 276 281 = h .address in absurd (omega arith);
+  other-freed = λ h. elim (h 2 5 (λ e. let z : _≡_ {A = ℕ} 1 0 = e in absurd (omega arith))) [
+    | inl u ↦ absurd (u refl)
+    | inr o ↦ elim o [
+      | inl e ↦ let z : _≡_ {A = ℕ} 1 2 = cc in absurd (omega arith)
+      | inr e ↦ let z : _≡_ {A = ℕ} 1 0 = e in absurd (omega arith)
+    ]
+  ];
 }

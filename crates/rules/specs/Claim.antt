@@ -4,8 +4,8 @@
 -- stuck: no step is stuck; stray: no load or store touches a byte outside the value that its pointer's type names, which is a run of
 --   primitives whole inside one object, used or free, of a live region in scope;
 -- steps: each step moves on, ends or stops for a listed reason; a load fetches a value of its register's type; no other page byte bears
---   on a step and none other is changed; an object that is handed out is all zeros, and else a store alone changes an object's bytes,
---   free or used (document 02, P1); and after each step the state passes the state test;
+--   on a step and none other is changed; an object that is handed out was free and is all zeros, and else a store alone changes an
+--   object's bytes, free or used (document 02, P1); and after each step the state passes the state test;
 -- test, bytes: after the list the state passes the state test, and its elements are bytes;
 -- pages, none: owned at the end + handed back = owned at the start + granted, and no page is owned once the module has ended.
 -- What these words mean stands in SafeStep (one step) and Calls (lists of calls); the machine in Host, Run and Step. Assumes nothing.

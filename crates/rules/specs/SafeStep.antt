@@ -18,7 +18,7 @@ use Rattle.rules.specs.Typing.{_⊢_∶_}
 use Rattle.rules.specs.Decision.{decReg, withPtr}
 use Rattle.rules.specs.State.{View, view, memoryPlace, memoryNumber}
 use Rattle.rules.specs.Heap.{close, Live, decLive, typeOf, heapTyping, Stands, decStands, Value}
-use Rattle.rules.specs.Step.{Effect, fetch, save, takePlace, grantPage, stop, stuck, effectOf}
+use Rattle.rules.specs.Step.{Effect, fetch, save, takePlace, grantPage, freePlace, stop, stuck, effectOf}
 use Rattle.rules.specs.Footprint.{footprint, Within}
 use Rattle.rules.specs.Writes.{applyState}
 use Rattle.rules.specs.Run.{Step, stateAfter}
@@ -152,6 +152,17 @@ pub data HandsOut (e : Effect) (p j : ℕ) : Type 0 where
   place : (n a : ℕ) → e ≡ takePlace p j n a → HandsOut e p j
   page : (r a : ℕ) → e ≡ grantPage p r a → HandsOut e p j
 
+-- Register a has the address of place j of page p after a step; the place was free and is used from then on.
+pub record Taken (m : Module) (t : Step) (p j a : ℕ) : Type 0 where
+  pub free : view (t .state) .mark p j ≡ 0
+  pub used : view (stateAfter m t) .mark p j ≢ 0
+  pub address : view (stateAfter m t) .reg (t .top) a ≡ pageBytes * p + placeBytes m (view (t .state)) (view (t .state) .owner p) * j
+
+-- what kind 27 hands out: a place of a page that its region has, or the first of a page that it is granted
+pub record NewTaken (m : Module) (t : Step) : Type 0 where
+  pub place : (p j n a : ℕ) → t .effect ≡ takePlace p j n a → Taken m t p j a
+  pub page : (p r a : ℕ) → t .effect ≡ grantPage p r a → Taken m t p 0 a
+
 -- the page byte at address i is another after a step
 abbrev pub Differs : Module → Step → ℕ → Type 0
 Differs m t i = byteAt (stateAfter m t) (memoryPlace i) ≢ byteAt (t .state) (memoryPlace i)
@@ -164,9 +175,14 @@ NewZero m t = (p j i : ℕ) → InPlace m (view (t .state)) p j i → HandsOut (
 abbrev pub FreeKept : Module → Step → Type 0
 FreeKept m t = (p j i : ℕ) → InPlace m (view (t .state)) p j i → view (t .state) .mark p j ≡ 0 → Differs m t i → Within (footprint (t .effect) .stores) i ⊎ HandsOut (t .effect) p j
 
--- and a used object's only by a store into it: no used object is handed out again
+-- and a used object's only by a store into it
 abbrev pub UsedKept : Module → Step → Type 0
 UsedKept m t = (p j i : ℕ) → InPlace m (view (t .state)) p j i → view (t .state) .mark p j ≢ 0 → Differs m t i → Within (footprint (t .effect) .stores) i
+
+-- a used object stays so until it is freed, or a return unowns its page
+abbrev pub UsedStays : Module → Step → Type 0
+UsedStays m t = (p j : ℕ) → view (t .state) .mark p j ≢ 0
+    → (view (stateAfter m t) .mark p j ≢ 0) ⊎ ((t .effect ≡ freePlace p j) ⊎ (view (stateAfter m t) .owner p ≡ 0))
 
 -- ---- one step of a list
 
@@ -188,10 +204,12 @@ pub record SafeStep (m : Module) (t : Step) : Type 0 where
       → ((i : ℕ) → i < memoryBytes → Reads (t .effect) i → byteAt s (memoryPlace i) ≡ byteAt (t .state) (memoryPlace i))
       → SameButPages (applyState m (t .top) (t .effect) s) (stateAfter m t)
   pub keeps : (i : ℕ) → i < memoryBytes → ¬ Changes (t .effect) i → byteAt (stateAfter m t) (memoryPlace i) ≡ byteAt (t .state) (memoryPlace i)
-  -- what kind 27 hands out is all zeros; else a store alone changes an object's bytes, free or used
+  -- what kind 27 hands out was free, is used from then on and all zeros; else a store alone changes an object's bytes, free or used
+  pub taken : NewTaken m t
   pub zeros : NewZero m t
   pub free : FreeKept m t
   pub used : UsedKept m t
+  pub stays : UsedStays m t
   -- after it the state passes the state test
   pub after : Passes m (stateAfter m t)
 

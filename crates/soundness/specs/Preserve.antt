@@ -179,22 +179,19 @@ good-emptied m v n p j s r g own is whole = record {
   slots = λ x q l. page x q l (ℕ-discrete (l .page) p);
 }
   where
-    W : HeapTyping
-    W = heapTyping m v n
+    KeptValue : (x : ℕ) (q : Tree live) → Type 0
+    KeptValue x q = Value m (heapTyping m v n) q (memoryNumber (cleared (v .memory) (pageBytes * p + s * j) s) x (width q))
 
-    Kept-value : (x : ℕ) (q : Tree live) → Type 0
-    Kept-value x q = Value m (heapTyping m v n) q (memoryNumber (cleared (v .memory) (pageBytes * p + s * j) s) x (width q))
-
-    apart : (x : ℕ) (q : Tree live) → Slot m (heapTyping m v n) x q → (pageBytes * p + s * j + s ≤ x) ⊎ (x + width q ≤ pageBytes * p + s * j) → Kept-value x q
+    apart : (x : ℕ) (q : Tree live) → Slot m (heapTyping m v n) x q → (pageBytes * p + s * j + s ≤ x) ⊎ (x + width q ≤ pageBytes * p + s * j) → KeptValue x q
     apart x q l h = rw (memoryNumber-cleared-apart (v .memory) (pageBytes * p + s * j) s x (width q) h) (g .slots x q l)
 
-    page : (x : ℕ) (q : Tree live) (l : Slot m (heapTyping m v n) x q) → Dec (l .page ≡ p) → Kept-value x q
+    page : (x : ℕ) (q : Tree live) (l : Slot m (heapTyping m v n) x q) → Dec (l .page ≡ p) → KeptValue x q
     page x q l (no d) = elsewhere (decLt (l .page) p)
       where
         end : l .distance + width q ≤ size m (typeOf m (v .fn) (v .map) n (l .region))
-        end = slot-inside m W x q l
+        end = slot-inside m (heapTyping m v n) x q l
 
-        elsewhere : Dec (l .page < p) → Kept-value x q
+        elsewhere : Dec (l .page < p) → KeptValue x q
         elsewhere (yes b) = apart x q l (inr (omega (arith, l .address, l .fits, end)))
         elsewhere (no b) = apart x q l (inl (omega (arith, l .address, l .fits, end, whole)))
     page x q l (yes d) = place (decLt (l .place) j) (decLt j (l .place))
@@ -205,19 +202,19 @@ good-emptied m v n p j s r g own is whole = record {
             ap (λ (i : ℕ). size m (typeOf m (v .fn) (v .map) n i)) e ∙ sym is
 
         end : l .distance + width q ≤ s
-        end = rw same at (slot-inside m W x q l)
+        end = rw same at (slot-inside m (heapTyping m v n) x q l)
 
         at : x ≡ pageBytes * p + (s * l .place + l .distance)
         at = l .address ∙ (λ i. pageBytes * d i + (same i * l .place + l .distance))
 
-        place : Dec (l .place < j) → Dec (j < l .place) → Kept-value x q
+        place : Dec (l .place < j) → Dec (j < l .place) → KeptValue x q
         place (yes b) _ = apart x q l (inr (omega (arith, at, end, mul-le-mul-left s b)))
         place (no b) (yes o) = apart x q l (inl (omega (arith, at, mul-le-mul-left s o)))
         place (no b) (no o) =
             let here : l .place ≡ j = omega arith in
             let there : s * l .place ≡ s * j = ap (λ (i : ℕ). s * i) here in
             rw (memoryNumber-cleared (v .memory) (pageBytes * p + s * j) s x (width q) (omega (arith, at, there)) (omega (arith, at, end, there)))
-            (value-zero m W q (flat-has-prim m (typeOf m (v .fn) (v .map) n (l .region)) (l .has)))
+            (value-zero m (heapTyping m v n) q (flat-has-prim m (typeOf m (v .fn) (v .map) n (l .region)) (l .has)))
 
 pub good-granted : (m : Module) (v : View) (n p r : ℕ) → Good m v n → 0 < p → v .owner p ≡ 0 → Live m (v .fn) (v .map) n (suc r) → Good m (granted p r v) n
 good-granted m v n p r g a e l = record {

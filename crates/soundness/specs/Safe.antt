@@ -40,7 +40,7 @@ pub record SafeSave (m : Module) (v : View) (k b x w y : ℕ) : Type 0 where
   pub value : Value m (heapTyping m v (suc k)) type y
   pub touches : Touches m v k b x w
 
--- a place of n bytes of a page, which has it unused
+-- an unused place of n bytes in a page
 pub record SafeTake (m : Module) (v : View) (k p j n a : ℕ) : Type 0 where
   pub region : ℕ
   pub inside : p < pages

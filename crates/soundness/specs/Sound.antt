@@ -24,7 +24,7 @@ use Rattle.soundness.specs.Facts.{ModuleOk}
 use Rattle.soundness.specs.Good.{Good}
 use Rattle.soundness.specs.Safe.{Safe}
 use Rattle.soundness.specs.Progress.{progress}
-use Rattle.soundness.specs.Objects.{new-zero, free-kept, used-kept}
+use Rattle.soundness.specs.Objects.{new-taken, new-zero, free-kept, used-kept, used-stays}
 use Rattle.soundness.specs.Step.{Test, fetched, pages-step, preserve, ended-none}
 use Rattle.soundness.specs.Bounds.{bounded}
 use Rattle.soundness.specs.Bridge.{test-passes}
@@ -136,9 +136,11 @@ module _ (m : Module) (ok : ModuleOk m) where
           decides = λ y h. decides-law m form y s h;
           reads = λ y h q. reads-law m (topFrame s) y s h (effectOf m form (view s)) q;
           keeps = keeps;
-          zeros = new-zero m s (topFrame s) (effectOf m form (view s)) (r .frame) f keeps clears;
-          free = λ p j i h u. free-kept m s (topFrame s) (effectOf m form (view s)) (r .frame) f keeps p j i h;
-          used = used-kept m s (topFrame s) (effectOf m form (view s)) (r .frame) f keeps (r .good);
+          taken = new-taken m (stepOf m form s o) (r .frame) f (r .good) after;
+          zeros = new-zero m (stepOf m form s o) (r .frame) f (r .good) clears;
+          free = free-kept m (stepOf m form s o) (r .frame) f (r .good) keeps;
+          used = used-kept m (stepOf m form s o) (r .frame) f (r .good) keeps;
+          stays = used-stays m (stepOf m form s o) (r .frame) f (r .good) after;
           after = test-passes m ok (stateAfter m (stepOf m form s o)) (held .size) (held .spare) test;
         };
         moving = stuck-none m (view s) (topFrame s) (effectOf m form (view s)) f;
