@@ -8,7 +8,7 @@ use Prim.Native.Nat.{ℕ, suc, _+_, _*_, _<_, _≤_}
 use native.Mathlib.Nat.{mul-le-mul-left, mul-le-mul-right}
 use native.Mathlib.Decide.{ℕ-discrete, decLt, decLe}
 use native.Mathlib.Omega.{arith}
-use Rattle.words.specs.Bytes.{Bytes, byteAt}
+use Rattle.words.specs.Bytes.{byteAt}
 use Rattle.words.specs.Decide.{decBoth}
 use Rattle.rules.specs.Limits.{pageBytes, memoryBytes}
 use Rattle.rules.specs.Module.{Module}
