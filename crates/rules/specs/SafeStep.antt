@@ -179,7 +179,7 @@ FreeKept m t = (p j i : ℕ) → InPlace m (view (t .state)) p j i → view (t .
 abbrev pub UsedKept : Module → Step → Type 0
 UsedKept m t = (p j i : ℕ) → InPlace m (view (t .state)) p j i → view (t .state) .mark p j ≢ 0 → Differs m t i → Within (footprint (t .effect) .stores) i
 
--- a used object stays so until it is freed, or a return unowns its page
+-- a used object stays so until it is freed, or its page has no owner afterwards (by the count of pages, `Claim.pages`, a return)
 abbrev pub UsedStays : Module → Step → Type 0
 UsedStays m t = (p j : ℕ) → view (t .state) .mark p j ≢ 0
     → (view (stateAfter m t) .mark p j ≢ 0) ⊎ ((t .effect ≡ freePlace p j) ⊎ (view (stateAfter m t) .owner p ≡ 0))
