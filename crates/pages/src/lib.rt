@@ -7,9 +7,9 @@ ghost use lib.ListN.{length};
 ghost use Rattle.rules.specs.Limits.{stateBytes, pages, pageBytes, firstPage, pastPage, liveRegions, markBytes};
 ghost use Rattle.rules.specs.State.{view, pageOwner, pageMark, written, putOwner, putMark, clearMemory, clearPage};
 ghost use Rattle.rules.specs.Heap.{placesInPage};
-ghost use Rattle.rules.specs.Step.{unownedPage};
+ghost use Rattle.rules.specs.Step.{unusedPlace, unownedPage};
 ghost use Rattle.state.specs.Marks.{lowestZero};
-ghost use Rattle.pages.specs.Search.{lowestPlace, placeFor, Found};
+ghost use Rattle.pages.specs.Search.{Found};
 ghost use Rattle.pages.specs.Places.{openByte, FullBelow};
 ghost use Rattle.pages.specs.Known.{UsedBelow, Used, forgot};
 ghost use Rattle.pages.specs.Meaning.{chosen, Within};
@@ -31,8 +31,12 @@ pub enum Chosen {
     Nothing,
 }
 
-// A page and a place in it.
-pub struct Spot(pub u32, pub u32);
+// What the search for room returns: a page, a place in it, and the last page that it looked at.
+pub struct Room {
+    pub page: u32,
+    pub place: u32,
+    pub last: u32,
+}
 
 // ---- places
 
@@ -77,7 +81,7 @@ fn open_byte(s: &[u8], p: u32, from: usize) -> usize
 // The lowest unused place of page p, or n, the number of its places; the places below from are used. (A byte of 255 is eight used places.)
 fn lowest_place(s: &[u8], p: u32, from: u32, n: u32) -> u32
     requires { ⌜ (length (now s) ≡ stateBytes) × (p < pages) × (n ≤ pageBytes) × UsedBelow (now s) p from ⌝ }
-    ensures { λ j. ⌜ j ≡ lowestPlace (pageOwner (now (s .entry))) (pageMark (now (s .entry))) n p ⌝ }
+    ensures { λ j. ⌜ j ≡ unusedPlace (pageMark (now (s .entry))) n p ⌝ }
 {
     if n <= from {
         return n;
@@ -100,7 +104,7 @@ pub const KNOWN: usize = Machine::PAGES as usize;
 // The lowest page from low on, and below past, that nobody owns; else past.
 pub fn unowned_page(s: &[u8], low: u32, past: u32) -> u32
     requires { ⌜ (length (now s) ≡ stateBytes) × (low ≤ past) × (past ≤ pages) ⌝ }
-    ensures { λ q. ⌜ q ≡ unownedPage (pageOwner (now (s .entry))) (pageMark (now (s .entry))) low past ⌝ }
+    ensures { λ q. ⌜ q ≡ unownedPage (pageOwner (now (s .entry))) low past ⌝ }
 {
     let mut q = low;
     while q < past {
@@ -112,35 +116,44 @@ pub fn unowned_page(s: &[u8], low: u32, past: u32) -> u32
     q
 }
 
-// The lowest unused place of page p where it is region r's; else n. The table gets what was found.
-fn place_for(s: &[u8], known: &mut [u32; KNOWN], p: u32, r: LiveRegion, n: u32) -> u32
+// The lowest unused place of page p, or n. The table gets what was found.
+fn place_in(s: &[u8], known: &mut [u32; KNOWN], p: u32, n: u32) -> u32
     requires { ⌜ (length (now s) ≡ stateBytes) × (p < pages) × (n ≤ pageBytes) × Used (now known) (now s) ⌝ }
-    ensures { λ j. ⌜ (j ≡ placeFor (pageOwner (now (s .entry))) (pageMark (now (s .entry))) (r .0) n p) × Used (now (known .exit)) (now (s .entry)) ⌝ }
+    ensures { λ j. ⌜ (j ≡ unusedPlace (pageMark (now (s .entry))) n p) × Used (now (known .exit)) (now (s .entry)) ⌝ }
 {
-    if wide(owner(s, p)) == wide(r.0) + 1 {
-        let i = p as usize;
-        let j = lowest_place(s, p, known[i], n);
-        known[i] = j;
-        j
-    } else {
-        n
-    }
+    let i = p as usize;
+    let j = lowest_place(s, p, known[i], n);
+    known[i] = j;
+    j
 }
 
-// The lowest page that is region r's and has an unused place, with its lowest; else the page past the last one and n.
-fn find_room(s: &[u8], known: &mut [u32; KNOWN], r: LiveRegion, n: u32) -> Spot
+// The lowest page that is region r's and has an unused place, with its lowest; else the page past the last one and n. The search looks at
+// the region's own pages alone and ends at the first with room; the last that it looked at is 0 where the region has none.
+pub fn find_room(s: &[u8], known: &mut [u32; KNOWN], r: LiveRegion, n: u32) -> Room
     requires { ⌜ (length (now s) ≡ stateBytes) × (n ≤ pageBytes) × Used (now known) (now s) ⌝ }
-    ensures { λ x. ⌜ Found (pageOwner (now (s .entry))) (pageMark (now (s .entry))) firstPage pastPage (r .0) n (x .0) (x .1) × Used (now (known .exit)) (now (s .entry)) ⌝ }
+    ensures { λ x. ⌜ Found (pageOwner (now (s .entry))) (pageMark (now (s .entry))) firstPage pastPage (r .0) n (x .page) (x .place) (x .last) × Used (now (known .exit)) (now (s .entry)) ⌝ }
 {
     let mut p = Machine::FIRST_PAGE;
+    let mut last: u32 = 0;
     while p < Machine::PAST_PAGE {
-        let j = place_for(s, known, p, r, n);
-        if j < n {
-            return Spot(p, j);
+        if wide(owner(s, p)) == wide(r.0) + 1 {
+            let j = place_in(s, known, p, n);
+            if j < n {
+                return Room {
+                    page: p,
+                    place: j,
+                    last: p,
+                };
+            }
+            last = p;
         }
         p += 1;
     }
-    Spot(p, n)
+    Room {
+        page: p,
+        place: n,
+        last: last,
+    }
 }
 
 // What a new object of region r takes, n places to a page: rules' `allocate` for objects of a size with n places (chosen-from).
@@ -149,8 +162,8 @@ pub fn allocate(s: &[u8], known: &mut [u32; KNOWN], r: LiveRegion, n: u32) -> Ch
     ensures { λ c. ⌜ (c ≡ chosen (view (now (s .entry)) .owner) (view (now (s .entry)) .mark) firstPage pastPage (r .0) n) × Within pastPage n c × Used (now (known .exit)) (now (s .entry)) ⌝ }
 {
     let x = find_room(s, known, r, n);
-    let p = x.0;
-    let j = x.1;
+    let p = x.page;
+    let j = x.place;
     if p < Machine::PAST_PAGE {
         return Chosen::Place(p, j);
     }

@@ -27,7 +27,7 @@ use Rattle.rules.specs.Decision.{asInt, asPtr, asArr, decReg, withInt, withPtr,
 use Rattle.rules.specs.State.{frameFunction, frameInstruction, frameRegister, frameMap, pageOwner, pageMark, memoryByte, view, memoryNumber, written, wordsOf, frameOf}
 use Rattle.rules.specs.Heap.{decLocal, decLive, localList, liveList, look, typeOf, decStands, decValue}
 use Rattle.rules.specs.Arithmetic.{operationOf, flag, valueIf, leftBy, rightBy, magnitude, nearestOf, signedBy, nearestBy, biased, operated, signExtended}
-use Rattle.rules.specs.Step.{need, onInt, onPtr, onArr, decIsCall, decStandsAtCall, onCall, isIn, lowest, lowestNumbers, decHome, unusedPlace, hasRoom, roomPage, unownedPage, allocate, notZero, computed, decHeld, calleeMap, calleeRegisters, returned, exec, effectAt, effectOf, closedPages}
+use Rattle.rules.specs.Step.{need, onInt, onPtr, onArr, decIsCall, decStandsAtCall, onCall, isIn, lowest, lowestNumbers, decHome, hasRoom, roomPage, unusedPlace, hasPlace, unownedPage, allocate, notZero, computed, decHeld, calleeMap, calleeRegisters, returned, exec, effectAt, effectOf, closedPages}
 use Rattle.rules.specs.Writes.{closing, leaving, stateWrites, outputWrites, applyState, applyOutput}
 use Rattle.rules.specs.Run.{runOf, stuckSteps}
 use Rattle.rules.specs.WellTyped.{decCounts, decTerm, decStruct, scopeOf, decFunction, decEntry, decLast}
@@ -89,7 +89,7 @@ pub start : Bytes
 start = firstState (moduleOf example) []
 
 no-parameters : moduleOf example .function 0 .params ≡ 0
-unfolding example recordsBytes fileOf file bit withBit number little splice listFrom firstFrom first decBoth decEither decImp decNot decAll decAny decThe mapDec decList decEach decRegion sub decTree decPlaced decPrims beside copiesOf copies subLayout flatWith fieldsFrom fieldsWith layouts flat decRun positionAt decSame asInt asPtr asArr decReg withInt withPtr anInt aPtr decConstant decCopy decOperate decZero decSigned decAddress decCheck decField decIndex decThrough decLoad decStore decWhole decNew decFree decInput decOutput decJump decBranch decCall decReturn decTyped frameFunction frameInstruction frameRegister frameMap pageOwner pageMark memoryByte view memoryNumber written wordsOf frameOf decLocal decLive localList liveList look typeOf decStands decValue operationOf flag valueIf leftBy rightBy magnitude nearestOf signedBy nearestBy biased operated signExtended need onInt onPtr onArr decIsCall decStandsAtCall onCall isIn lowest lowestNumbers decHome unusedPlace hasRoom roomPage unownedPage allocate notZero computed decHeld calleeMap calleeRegisters returned exec effectAt effectOf closedPages closing leaving stateWrites outputWrites applyState applyOutput runOf stuckSteps decCounts decTerm decStruct structFlat decUses regionBytes treeOf treesOf fieldsOf places codePlaces callOf arithmeticOf memoryOf controlOf byGroup instructionOf codeOf functionOf moduleOf records recordStart recordOf groupOf toCode toRegisters openedFunction done toFunction toName step next nextScan scan whole outcomeOf wentOf firstRegister firstState objectIn ℕ-discrete decLt decLe
+unfolding example recordsBytes fileOf file bit withBit number little splice listFrom firstFrom first decBoth decEither decImp decNot decAll decAny decThe mapDec decList decEach decRegion sub decTree decPlaced decPrims beside copiesOf copies subLayout flatWith fieldsFrom fieldsWith layouts flat decRun positionAt decSame asInt asPtr asArr decReg withInt withPtr anInt aPtr decConstant decCopy decOperate decZero decSigned decAddress decCheck decField decIndex decThrough decLoad decStore decWhole decNew decFree decInput decOutput decJump decBranch decCall decReturn decTyped frameFunction frameInstruction frameRegister frameMap pageOwner pageMark memoryByte view memoryNumber written wordsOf frameOf decLocal decLive localList liveList look typeOf decStands decValue operationOf flag valueIf leftBy rightBy magnitude nearestOf signedBy nearestBy biased operated signExtended need onInt onPtr onArr decIsCall decStandsAtCall onCall isIn lowest lowestNumbers decHome hasRoom roomPage unusedPlace hasPlace unownedPage allocate notZero computed decHeld calleeMap calleeRegisters returned exec effectAt effectOf closedPages closing leaving stateWrites outputWrites applyState applyOutput runOf stuckSteps decCounts decTerm decStruct structFlat decUses regionBytes treeOf treesOf fieldsOf places codePlaces callOf arithmeticOf memoryOf controlOf byGroup instructionOf codeOf functionOf moduleOf records recordStart recordOf groupOf toCode toRegisters openedFunction done toFunction toName step next nextScan scan whole outcomeOf wentOf firstRegister firstState objectIn ℕ-discrete decLt decLe
 no-parameters = refl
 
 pub opened-example : openOf example [] (replicate stateBytes 0) ≡ opened start
@@ -111,25 +111,25 @@ ran = runOf (moduleOf example) [] 1000 start output
 -- page 1 granted to region 0; 42; stored at 256; function 1 with region 0 and the pointer; loaded; returned into register 2; freed;
 -- handed out again, 4 bytes; loaded; ended, with 0
 pub ran-effects : effects (ran .steps) ≡ (4 ∷ 1 ∷ 0 ∷ 0 ∷ []) ∷ (0 ∷ 1 ∷ 42 ∷ []) ∷ (2 ∷ 0 ∷ 256 ∷ 4 ∷ 42 ∷ []) ∷ (8 ∷ 1 ∷ 0 ∷ 256 ∷ []) ∷ (1 ∷ 0 ∷ 1 ∷ 256 ∷ 4 ∷ []) ∷ (9 ∷ 0 ∷ 2 ∷ 42 ∷ []) ∷ (5 ∷ 1 ∷ 0 ∷ []) ∷ (3 ∷ 1 ∷ 0 ∷ 4 ∷ 0 ∷ []) ∷ (1 ∷ 0 ∷ 1 ∷ 256 ∷ 4 ∷ []) ∷ (10 ∷ 0 ∷ []) ∷ []
-unfolding start output ran shown effects example recordsBytes fileOf file bit withBit number little splice listFrom firstFrom first decBoth decEither decImp decNot decAll decAny decThe mapDec decList decEach decRegion sub decTree decPlaced decPrims beside copiesOf copies subLayout flatWith fieldsFrom fieldsWith layouts flat decRun positionAt decSame asInt asPtr asArr decReg withInt withPtr anInt aPtr decConstant decCopy decOperate decZero decSigned decAddress decCheck decField decIndex decThrough decLoad decStore decWhole decNew decFree decInput decOutput decJump decBranch decCall decReturn decTyped frameFunction frameInstruction frameRegister frameMap pageOwner pageMark memoryByte view memoryNumber written wordsOf frameOf decLocal decLive localList liveList look typeOf decStands decValue operationOf flag valueIf leftBy rightBy magnitude nearestOf signedBy nearestBy biased operated signExtended need onInt onPtr onArr decIsCall decStandsAtCall onCall isIn lowest lowestNumbers decHome unusedPlace hasRoom roomPage unownedPage allocate notZero computed decHeld calleeMap calleeRegisters returned exec effectAt effectOf closedPages closing leaving stateWrites outputWrites applyState applyOutput runOf stuckSteps decCounts decTerm decStruct structFlat decUses regionBytes treeOf treesOf fieldsOf places codePlaces callOf arithmeticOf memoryOf controlOf byGroup instructionOf codeOf functionOf moduleOf records recordStart recordOf groupOf toCode toRegisters openedFunction done toFunction toName step next nextScan scan whole outcomeOf wentOf firstRegister firstState objectIn ℕ-discrete decLt decLe
+unfolding start output ran shown effects example recordsBytes fileOf file bit withBit number little splice listFrom firstFrom first decBoth decEither decImp decNot decAll decAny decThe mapDec decList decEach decRegion sub decTree decPlaced decPrims beside copiesOf copies subLayout flatWith fieldsFrom fieldsWith layouts flat decRun positionAt decSame asInt asPtr asArr decReg withInt withPtr anInt aPtr decConstant decCopy decOperate decZero decSigned decAddress decCheck decField decIndex decThrough decLoad decStore decWhole decNew decFree decInput decOutput decJump decBranch decCall decReturn decTyped frameFunction frameInstruction frameRegister frameMap pageOwner pageMark memoryByte view memoryNumber written wordsOf frameOf decLocal decLive localList liveList look typeOf decStands decValue operationOf flag valueIf leftBy rightBy magnitude nearestOf signedBy nearestBy biased operated signExtended need onInt onPtr onArr decIsCall decStandsAtCall onCall isIn lowest lowestNumbers decHome hasRoom roomPage unusedPlace hasPlace unownedPage allocate notZero computed decHeld calleeMap calleeRegisters returned exec effectAt effectOf closedPages closing leaving stateWrites outputWrites applyState applyOutput runOf stuckSteps decCounts decTerm decStruct structFlat decUses regionBytes treeOf treesOf fieldsOf places codePlaces callOf arithmeticOf memoryOf controlOf byGroup instructionOf codeOf functionOf moduleOf records recordStart recordOf groupOf toCode toRegisters openedFunction done toFunction toName step next nextScan scan whole outcomeOf wentOf firstRegister firstState objectIn ℕ-discrete decLt decLe
 ran-effects = refl
 
 ran-outcome : outcomeOf (view (ran .state)) ≡ ended 0
-unfolding start output ran example recordsBytes fileOf file bit withBit number little splice listFrom firstFrom first decBoth decEither decImp decNot decAll decAny decThe mapDec decList decEach decRegion sub decTree decPlaced decPrims beside copiesOf copies subLayout flatWith fieldsFrom fieldsWith layouts flat decRun positionAt decSame asInt asPtr asArr decReg withInt withPtr anInt aPtr decConstant decCopy decOperate decZero decSigned decAddress decCheck decField decIndex decThrough decLoad decStore decWhole decNew decFree decInput decOutput decJump decBranch decCall decReturn decTyped frameFunction frameInstruction frameRegister frameMap pageOwner pageMark memoryByte view memoryNumber written wordsOf frameOf decLocal decLive localList liveList look typeOf decStands decValue operationOf flag valueIf leftBy rightBy magnitude nearestOf signedBy nearestBy biased operated signExtended need onInt onPtr onArr decIsCall decStandsAtCall onCall isIn lowest lowestNumbers decHome unusedPlace hasRoom roomPage unownedPage allocate notZero computed decHeld calleeMap calleeRegisters returned exec effectAt effectOf closedPages closing leaving stateWrites outputWrites applyState applyOutput runOf stuckSteps decCounts decTerm decStruct structFlat decUses regionBytes treeOf treesOf fieldsOf places codePlaces callOf arithmeticOf memoryOf controlOf byGroup instructionOf codeOf functionOf moduleOf records recordStart recordOf groupOf toCode toRegisters openedFunction done toFunction toName step next nextScan scan whole outcomeOf wentOf firstRegister firstState objectIn ℕ-discrete decLt decLe
+unfolding start output ran example recordsBytes fileOf file bit withBit number little splice listFrom firstFrom first decBoth decEither decImp decNot decAll decAny decThe mapDec decList decEach decRegion sub decTree decPlaced decPrims beside copiesOf copies subLayout flatWith fieldsFrom fieldsWith layouts flat decRun positionAt decSame asInt asPtr asArr decReg withInt withPtr anInt aPtr decConstant decCopy decOperate decZero decSigned decAddress decCheck decField decIndex decThrough decLoad decStore decWhole decNew decFree decInput decOutput decJump decBranch decCall decReturn decTyped frameFunction frameInstruction frameRegister frameMap pageOwner pageMark memoryByte view memoryNumber written wordsOf frameOf decLocal decLive localList liveList look typeOf decStands decValue operationOf flag valueIf leftBy rightBy magnitude nearestOf signedBy nearestBy biased operated signExtended need onInt onPtr onArr decIsCall decStandsAtCall onCall isIn lowest lowestNumbers decHome hasRoom roomPage unusedPlace hasPlace unownedPage allocate notZero computed decHeld calleeMap calleeRegisters returned exec effectAt effectOf closedPages closing leaving stateWrites outputWrites applyState applyOutput runOf stuckSteps decCounts decTerm decStruct structFlat decUses regionBytes treeOf treesOf fieldsOf places codePlaces callOf arithmeticOf memoryOf controlOf byGroup instructionOf codeOf functionOf moduleOf records recordStart recordOf groupOf toCode toRegisters openedFunction done toFunction toName step next nextScan scan whole outcomeOf wentOf firstRegister firstState objectIn ℕ-discrete decLt decLe
 ran-outcome = refl
 
 ran-steps : length (ran .steps) ≡ 10
-unfolding start output ran example recordsBytes fileOf file bit withBit number little splice listFrom firstFrom first decBoth decEither decImp decNot decAll decAny decThe mapDec decList decEach decRegion sub decTree decPlaced decPrims beside copiesOf copies subLayout flatWith fieldsFrom fieldsWith layouts flat decRun positionAt decSame asInt asPtr asArr decReg withInt withPtr anInt aPtr decConstant decCopy decOperate decZero decSigned decAddress decCheck decField decIndex decThrough decLoad decStore decWhole decNew decFree decInput decOutput decJump decBranch decCall decReturn decTyped frameFunction frameInstruction frameRegister frameMap pageOwner pageMark memoryByte view memoryNumber written wordsOf frameOf decLocal decLive localList liveList look typeOf decStands decValue operationOf flag valueIf leftBy rightBy magnitude nearestOf signedBy nearestBy biased operated signExtended need onInt onPtr onArr decIsCall decStandsAtCall onCall isIn lowest lowestNumbers decHome unusedPlace hasRoom roomPage unownedPage allocate notZero computed decHeld calleeMap calleeRegisters returned exec effectAt effectOf closedPages closing leaving stateWrites outputWrites applyState applyOutput runOf stuckSteps decCounts decTerm decStruct structFlat decUses regionBytes treeOf treesOf fieldsOf places codePlaces callOf arithmeticOf memoryOf controlOf byGroup instructionOf codeOf functionOf moduleOf records recordStart recordOf groupOf toCode toRegisters openedFunction done toFunction toName step next nextScan scan whole outcomeOf wentOf firstRegister firstState objectIn ℕ-discrete decLt decLe
+unfolding start output ran example recordsBytes fileOf file bit withBit number little splice listFrom firstFrom first decBoth decEither decImp decNot decAll decAny decThe mapDec decList decEach decRegion sub decTree decPlaced decPrims beside copiesOf copies subLayout flatWith fieldsFrom fieldsWith layouts flat decRun positionAt decSame asInt asPtr asArr decReg withInt withPtr anInt aPtr decConstant decCopy decOperate decZero decSigned decAddress decCheck decField decIndex decThrough decLoad decStore decWhole decNew decFree decInput decOutput decJump decBranch decCall decReturn decTyped frameFunction frameInstruction frameRegister frameMap pageOwner pageMark memoryByte view memoryNumber written wordsOf frameOf decLocal decLive localList liveList look typeOf decStands decValue operationOf flag valueIf leftBy rightBy magnitude nearestOf signedBy nearestBy biased operated signExtended need onInt onPtr onArr decIsCall decStandsAtCall onCall isIn lowest lowestNumbers decHome hasRoom roomPage unusedPlace hasPlace unownedPage allocate notZero computed decHeld calleeMap calleeRegisters returned exec effectAt effectOf closedPages closing leaving stateWrites outputWrites applyState applyOutput runOf stuckSteps decCounts decTerm decStruct structFlat decUses regionBytes treeOf treesOf fieldsOf places codePlaces callOf arithmeticOf memoryOf controlOf byGroup instructionOf codeOf functionOf moduleOf records recordStart recordOf groupOf toCode toRegisters openedFunction done toFunction toName step next nextScan scan whole outcomeOf wentOf firstRegister firstState objectIn ℕ-discrete decLt decLe
 ran-steps = refl
 
 -- one page granted and one handed back
 pub ran-pages : (granted (ran .steps) ≡ 1) × (handedBack (moduleOf example) (ran .steps) ≡ 1)
-unfolding start output ran granted handedBack example recordsBytes fileOf file bit withBit number little splice listFrom firstFrom first decBoth decEither decImp decNot decAll decAny decThe mapDec decList decEach decRegion sub decTree decPlaced decPrims beside copiesOf copies subLayout flatWith fieldsFrom fieldsWith layouts flat decRun positionAt decSame asInt asPtr asArr decReg withInt withPtr anInt aPtr decConstant decCopy decOperate decZero decSigned decAddress decCheck decField decIndex decThrough decLoad decStore decWhole decNew decFree decInput decOutput decJump decBranch decCall decReturn decTyped frameFunction frameInstruction frameRegister frameMap pageOwner pageMark memoryByte view memoryNumber written wordsOf frameOf decLocal decLive localList liveList look typeOf decStands decValue operationOf flag valueIf leftBy rightBy magnitude nearestOf signedBy nearestBy biased operated signExtended need onInt onPtr onArr decIsCall decStandsAtCall onCall isIn lowest lowestNumbers decHome unusedPlace hasRoom roomPage unownedPage allocate notZero computed decHeld calleeMap calleeRegisters returned exec effectAt effectOf closedPages closing leaving stateWrites outputWrites applyState applyOutput runOf stuckSteps decCounts decTerm decStruct structFlat decUses regionBytes treeOf treesOf fieldsOf places codePlaces callOf arithmeticOf memoryOf controlOf byGroup instructionOf codeOf functionOf moduleOf records recordStart recordOf groupOf toCode toRegisters openedFunction done toFunction toName step next nextScan scan whole outcomeOf wentOf firstRegister firstState objectIn ℕ-discrete decLt decLe
+unfolding start output ran granted handedBack example recordsBytes fileOf file bit withBit number little splice listFrom firstFrom first decBoth decEither decImp decNot decAll decAny decThe mapDec decList decEach decRegion sub decTree decPlaced decPrims beside copiesOf copies subLayout flatWith fieldsFrom fieldsWith layouts flat decRun positionAt decSame asInt asPtr asArr decReg withInt withPtr anInt aPtr decConstant decCopy decOperate decZero decSigned decAddress decCheck decField decIndex decThrough decLoad decStore decWhole decNew decFree decInput decOutput decJump decBranch decCall decReturn decTyped frameFunction frameInstruction frameRegister frameMap pageOwner pageMark memoryByte view memoryNumber written wordsOf frameOf decLocal decLive localList liveList look typeOf decStands decValue operationOf flag valueIf leftBy rightBy magnitude nearestOf signedBy nearestBy biased operated signExtended need onInt onPtr onArr decIsCall decStandsAtCall onCall isIn lowest lowestNumbers decHome hasRoom roomPage unusedPlace hasPlace unownedPage allocate notZero computed decHeld calleeMap calleeRegisters returned exec effectAt effectOf closedPages closing leaving stateWrites outputWrites applyState applyOutput runOf stuckSteps decCounts decTerm decStruct structFlat decUses regionBytes treeOf treesOf fieldsOf places codePlaces callOf arithmeticOf memoryOf controlOf byGroup instructionOf codeOf functionOf moduleOf records recordStart recordOf groupOf toCode toRegisters openedFunction done toFunction toName step next nextScan scan whole outcomeOf wentOf firstRegister firstState objectIn ℕ-discrete decLt decLe
 ran-pages = (refl, refl)
 
 -- its loads and its store touch no byte outside the value
 pub ran-stray : strayBytes (moduleOf example) (ran .steps) ≡ 0
-unfolding start output ran decInPrimitives decNames decInValue strayFrom strayBytes example recordsBytes fileOf file bit withBit number little splice listFrom firstFrom first decBoth decEither decImp decNot decAll decAny decThe mapDec decList decEach decRegion sub decTree decPlaced decPrims beside copiesOf copies subLayout flatWith fieldsFrom fieldsWith layouts flat decRun positionAt decSame asInt asPtr asArr decReg withInt withPtr anInt aPtr decConstant decCopy decOperate decZero decSigned decAddress decCheck decField decIndex decThrough decLoad decStore decWhole decNew decFree decInput decOutput decJump decBranch decCall decReturn decTyped frameFunction frameInstruction frameRegister frameMap pageOwner pageMark memoryByte view memoryNumber written wordsOf frameOf decLocal decLive localList liveList look typeOf decStands decValue operationOf flag valueIf leftBy rightBy magnitude nearestOf signedBy nearestBy biased operated signExtended need onInt onPtr onArr decIsCall decStandsAtCall onCall isIn lowest lowestNumbers decHome unusedPlace hasRoom roomPage unownedPage allocate notZero computed decHeld calleeMap calleeRegisters returned exec effectAt effectOf closedPages closing leaving stateWrites outputWrites applyState applyOutput runOf stuckSteps decCounts decTerm decStruct structFlat decUses regionBytes treeOf treesOf fieldsOf places codePlaces callOf arithmeticOf memoryOf controlOf byGroup instructionOf codeOf functionOf moduleOf records recordStart recordOf groupOf toCode toRegisters openedFunction done toFunction toName step next nextScan scan whole outcomeOf wentOf firstRegister firstState objectIn ℕ-discrete decLt decLe
+unfolding start output ran decInPrimitives decNames decInValue strayFrom strayBytes example recordsBytes fileOf file bit withBit number little splice listFrom firstFrom first decBoth decEither decImp decNot decAll decAny decThe mapDec decList decEach decRegion sub decTree decPlaced decPrims beside copiesOf copies subLayout flatWith fieldsFrom fieldsWith layouts flat decRun positionAt decSame asInt asPtr asArr decReg withInt withPtr anInt aPtr decConstant decCopy decOperate decZero decSigned decAddress decCheck decField decIndex decThrough decLoad decStore decWhole decNew decFree decInput decOutput decJump decBranch decCall decReturn decTyped frameFunction frameInstruction frameRegister frameMap pageOwner pageMark memoryByte view memoryNumber written wordsOf frameOf decLocal decLive localList liveList look typeOf decStands decValue operationOf flag valueIf leftBy rightBy magnitude nearestOf signedBy nearestBy biased operated signExtended need onInt onPtr onArr decIsCall decStandsAtCall onCall isIn lowest lowestNumbers decHome hasRoom roomPage unusedPlace hasPlace unownedPage allocate notZero computed decHeld calleeMap calleeRegisters returned exec effectAt effectOf closedPages closing leaving stateWrites outputWrites applyState applyOutput runOf stuckSteps decCounts decTerm decStruct structFlat decUses regionBytes treeOf treesOf fieldsOf places codePlaces callOf arithmeticOf memoryOf controlOf byGroup instructionOf codeOf functionOf moduleOf records recordStart recordOf groupOf toCode toRegisters openedFunction done toFunction toName step next nextScan scan whole outcomeOf wentOf firstRegister firstState objectIn ℕ-discrete decLt decLe
 ran-stray = refl
 
 -- ---- going on, and the claim

@@ -25,7 +25,7 @@ use Rattle.rules.specs.Decision.{decTyped}
 use Rattle.rules.specs.State.{View}
 use Rattle.rules.specs.Heap.{close, decLive, liveList, typeOf, HeapTyping, heapTyping, placesInPage, Stands, decStands, Value}
 use Rattle.rules.specs.Arithmetic.{Computed, value, halt, operationOf, operated, cut, signExtended}
-use Rattle.rules.specs.Step.{Effect, assign, takePlace, grantPage, freePlace, goTo, emit, push, pop, stop, need, onInt, onPtr, onArr, onCall, StandsAtCall, decStandsAtCall, lowestNumbers, Home, decHome, unusedPlace, hasRoom, roomPage, unownedPage, allocate, notZero, computed, Held, decHeld, calleeMap, calleeRegisters, returned, exec, effectAt}
+use Rattle.rules.specs.Step.{Effect, assign, takePlace, grantPage, freePlace, goTo, emit, push, pop, stop, need, onInt, onPtr, onArr, onCall, StandsAtCall, decStandsAtCall, lowestNumbers, Home, decHome, hasRoom, roomPage, unusedPlace, hasPlace, unownedPage, allocate, notZero, computed, Held, decHeld, calleeMap, calleeRegisters, returned, exec, effectAt}
 use Rattle.rules.specs.StateTest.{Listed, Chained, site-unique}
 use Rattle.rules.specs.SafeStep.{Touches}
 use Rattle.layout.specs.TypesOk.{GoodTree, good-ptr}
@@ -44,11 +44,11 @@ use Rattle.soundness.specs.Preserve.{SafePush}
 use Rattle.soundness.specs.Safe.{Next, SafeSet, SafeFree, SafePop, Safe}
 
 -- the place that kind 27 takes was not used
-unused-place : (owner : ℕ → ℕ) (mark : ℕ → ℕ → ℕ) (s p : ℕ) → unusedPlace owner mark s p < placesInPage s → mark p (unusedPlace owner mark s p) ≡ 0
+unused-place : (mark : ℕ → ℕ → ℕ) (n p : ℕ) → unusedPlace mark n p < n → mark p (unusedPlace mark n p) ≡ 0
 unfolding unusedPlace
-unused-place owner mark s p h =
-    let j : ℕ = first (placesInPage s) (λ j. not (eqb (mark p j) 0)) in
-    eqb-true (mark p j) 0 (not-false (eqb (mark p j) 0) (first-fails (placesInPage s) (λ j. not (eqb (mark p j) 0)) h))
+unused-place mark n p h =
+    let j : ℕ = first n (λ j. not (eqb (mark p j) 0)) in
+    eqb-true (mark p j) 0 (not-false (eqb (mark p j) 0) (first-fails n (λ j. not (eqb (mark p j) 0)) h))
 
 -- ---- guards and choices: what holds of each effect behind them holds of the whole
 
@@ -236,9 +236,9 @@ module _ (m : Module) (ok : ModuleOk m) (form : Bytes) (bytes : AllBytes form) (
 
   allocate-safe : (a : ℕ) (T : Tree variable) (r : Variable) → top m v k ⊢ a ∶ ptr T r → Same (flat m T) (flat m (top m v k .regionType (r .number))) → Next m v k
       → Safe m v k (allocate (v .owner) (v .mark) firstPage pastPage (v .map k (r .number)) (size m (top m v k .regionType (r .number))) a)
-  unfolding allocate roomPage unownedPage hasRoom
+  unfolding allocate roomPage unownedPage hasRoom hasPlace
   allocate-safe a T r ra e n =
-      split-lt (Safe m v k) p pastPage (takePlace p (unusedPlace (v .owner) (v .mark) s p) s a) (cond (ltb q pastPage) (grantPage q i a) (stop noPage)) old
+      split-lt (Safe m v k) p pastPage (takePlace p (unusedPlace (v .mark) (placesInPage s) p) s a) (cond (ltb q pastPage) (grantPage q i a) (stop noPage)) old
       (λ _. split-lt (Safe m v k) q pastPage (grantPage q i a) (stop noPage) fresh (λ _. listed noPage (omega arith) (omega arith)))
     where
       i : ℕ
@@ -248,21 +248,21 @@ module _ (m : Module) (ok : ModuleOk m) (form : Bytes) (bytes : AllBytes form) (
       s = size m (top m v k .regionType (r .number))
 
       p : ℕ
-      p = roomPage (v .owner) (v .mark) firstPage pastPage i s
+      p = roomPage (v .owner) (hasPlace (v .mark) (placesInPage s)) firstPage pastPage i
 
       q : ℕ
-      q = unownedPage (v .owner) (v .mark) firstPage pastPage
+      q = unownedPage (v .owner) firstPage pastPage
 
       scope : r .number < regions (top m v k)
       scope = pointer-scope a T r ra
 
-      old : p < pastPage → Safe m v k (takePlace p (unusedPlace (v .owner) (v .mark) s p) s a)
+      old : p < pastPage → Safe m v k (takePlace p (unusedPlace (v .mark) (placesInPage s) p) s a)
       old h =
-          let l = firstFrom-least (λ p. not (hasRoom (v .owner) (v .mark) i s p)) firstPage (pastPage - firstPage) in
-          let b = not-false (hasRoom (v .owner) (v .mark) i s p) (l .fails h) in
-          let c = both (eqb (v .owner p) (suc i)) (ltb (unusedPlace (v .owner) (v .mark) s p) (placesInPage s)) b in
+          let l = firstFrom-least (λ p. not (hasRoom (v .owner) (hasPlace (v .mark) (placesInPage s)) i p)) firstPage (pastPage - firstPage) in
+          let b = not-false (hasRoom (v .owner) (hasPlace (v .mark) (placesInPage s)) i p) (l .fails h) in
+          let c = both (eqb (v .owner p) (suc i)) (ltb (unusedPlace (v .mark) (placesInPage s) p) (placesInPage s)) b in
           let own : v .owner p ≡ suc i = eqb-true (v .owner p) (suc i) (c .0) in
-          let j : ℕ = unusedPlace (v .owner) (v .mark) s p in
+          let j : ℕ = unusedPlace (v .mark) (placesInPage s) p in
           let place : j < placesInPage s = ltb-true j (placesInPage s) (c .1) in
           let fits : s * suc j ≤ pageBytes = places-fit s j (region-size (r .number) scope .0) place in
           let one : 1 * suc j ≤ s * suc j = mul-le-mul-right (suc j) (region-size (r .number) scope .0) in
@@ -273,7 +273,7 @@ module _ (m : Module) (ok : ModuleOk m) (form : Bytes) (bytes : AllBytes form) (
             own = own;
             size = sym (object-size (r .number) scope);
             fits = fits;
-            unused = unused-place (v .owner) (v .mark) s p place;
+            unused = unused-place (v .mark) (placesInPage s) p place;
             register = set-run a T r (pageBytes * p + s * j) ra n (object-run (heapTyping m v (suc k)) refl a T r ra e p j h own fits);
           }
 

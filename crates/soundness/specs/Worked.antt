@@ -25,7 +25,7 @@ use Rattle.rules.specs.Decision.{asInt, asPtr, asArr, decReg, withInt, withPtr,
 use Rattle.rules.specs.State.{frameFunction, frameInstruction, frameRegister, frameMap, pageOwner, pageMark, memoryByte, view, memoryNumber, written, wordsOf, frameOf}
 use Rattle.rules.specs.Heap.{decLocal, decLive, localList, liveList, look, typeOf, decStands, decValue}
 use Rattle.rules.specs.Arithmetic.{operationOf, flag, valueIf, leftBy, rightBy, magnitude, nearestOf, signedBy, nearestBy, biased, operated, signExtended}
-use Rattle.rules.specs.Step.{need, onInt, onPtr, onArr, decIsCall, decStandsAtCall, onCall, isIn, lowest, lowestNumbers, decHome, unusedPlace, hasRoom, roomPage, unownedPage, allocate, notZero, computed, decHeld, calleeMap, calleeRegisters, returned, exec, effectAt, effectOf, closedPages}
+use Rattle.rules.specs.Step.{need, onInt, onPtr, onArr, decIsCall, decStandsAtCall, onCall, isIn, lowest, lowestNumbers, decHome, hasRoom, roomPage, unusedPlace, hasPlace, unownedPage, allocate, notZero, computed, decHeld, calleeMap, calleeRegisters, returned, exec, effectAt, effectOf, closedPages}
 use Rattle.rules.specs.Writes.{closing, leaving, stateWrites, outputWrites, applyState, applyOutput}
 use Rattle.rules.specs.Run.{runOf, stuckSteps}
 use Rattle.rules.specs.WellTyped.{decCounts, decTerm, decStruct}
@@ -51,11 +51,11 @@ pub worked-ran : Trace
 worked-ran = runOf (moduleOf workedFile) [] 1000000 (firstState (moduleOf workedFile) []) (replicate outputBytes 0)
 
 pub worked-outcome : outcomeOf (view (worked-ran .state)) ≡ ended 42
-unfolding worked-ran bit withBit number little splice listFrom firstFrom first decBoth decEither decImp decNot decAll decAny decThe mapDec decList decEach decRegion sub decTree decPlaced decPrims beside copiesOf copies subLayout flatWith fieldsFrom fieldsWith layouts flat decRun positionAt decSame asInt asPtr asArr decReg withInt withPtr anInt aPtr decConstant decCopy decOperate decZero decSigned decAddress decCheck decField decIndex decThrough decLoad decStore decWhole decNew decFree decInput decOutput decJump decBranch decCall decReturn decTyped frameFunction frameInstruction frameRegister frameMap pageOwner pageMark memoryByte view memoryNumber written wordsOf frameOf decLocal decLive localList liveList look typeOf decStands decValue operationOf flag valueIf leftBy rightBy magnitude nearestOf signedBy nearestBy biased operated signExtended need onInt onPtr onArr decIsCall decStandsAtCall onCall isIn lowest lowestNumbers decHome unusedPlace hasRoom roomPage unownedPage allocate notZero computed decHeld calleeMap calleeRegisters returned exec effectAt effectOf closedPages closing leaving stateWrites outputWrites applyState applyOutput runOf stuckSteps decCounts decTerm decStruct structFlat decUses regionBytes treeOf treesOf fieldsOf places codePlaces callOf arithmeticOf memoryOf controlOf byGroup instructionOf codeOf functionOf moduleOf records recordStart recordOf groupOf toCode toRegisters openedFunction done toFunction toName step next nextScan scan whole outcomeOf wentOf firstRegister firstState objectIn ℕ-discrete decLt decLe
+unfolding worked-ran bit withBit number little splice listFrom firstFrom first decBoth decEither decImp decNot decAll decAny decThe mapDec decList decEach decRegion sub decTree decPlaced decPrims beside copiesOf copies subLayout flatWith fieldsFrom fieldsWith layouts flat decRun positionAt decSame asInt asPtr asArr decReg withInt withPtr anInt aPtr decConstant decCopy decOperate decZero decSigned decAddress decCheck decField decIndex decThrough decLoad decStore decWhole decNew decFree decInput decOutput decJump decBranch decCall decReturn decTyped frameFunction frameInstruction frameRegister frameMap pageOwner pageMark memoryByte view memoryNumber written wordsOf frameOf decLocal decLive localList liveList look typeOf decStands decValue operationOf flag valueIf leftBy rightBy magnitude nearestOf signedBy nearestBy biased operated signExtended need onInt onPtr onArr decIsCall decStandsAtCall onCall isIn lowest lowestNumbers decHome hasRoom roomPage unusedPlace hasPlace unownedPage allocate notZero computed decHeld calleeMap calleeRegisters returned exec effectAt effectOf closedPages closing leaving stateWrites outputWrites applyState applyOutput runOf stuckSteps decCounts decTerm decStruct structFlat decUses regionBytes treeOf treesOf fieldsOf places codePlaces callOf arithmeticOf memoryOf controlOf byGroup instructionOf codeOf functionOf moduleOf records recordStart recordOf groupOf toCode toRegisters openedFunction done toFunction toName step next nextScan scan whole outcomeOf wentOf firstRegister firstState objectIn ℕ-discrete decLt decLe
 worked-outcome = refl
 
 worked-steps : length (worked-ran .steps) ≡ 2
-unfolding worked-ran bit withBit number little splice listFrom firstFrom first decBoth decEither decImp decNot decAll decAny decThe mapDec decList decEach decRegion sub decTree decPlaced decPrims beside copiesOf copies subLayout flatWith fieldsFrom fieldsWith layouts flat decRun positionAt decSame asInt asPtr asArr decReg withInt withPtr anInt aPtr decConstant decCopy decOperate decZero decSigned decAddress decCheck decField decIndex decThrough decLoad decStore decWhole decNew decFree decInput decOutput decJump decBranch decCall decReturn decTyped frameFunction frameInstruction frameRegister frameMap pageOwner pageMark memoryByte view memoryNumber written wordsOf frameOf decLocal decLive localList liveList look typeOf decStands decValue operationOf flag valueIf leftBy rightBy magnitude nearestOf signedBy nearestBy biased operated signExtended need onInt onPtr onArr decIsCall decStandsAtCall onCall isIn lowest lowestNumbers decHome unusedPlace hasRoom roomPage unownedPage allocate notZero computed decHeld calleeMap calleeRegisters returned exec effectAt effectOf closedPages closing leaving stateWrites outputWrites applyState applyOutput runOf stuckSteps decCounts decTerm decStruct structFlat decUses regionBytes treeOf treesOf fieldsOf places codePlaces callOf arithmeticOf memoryOf controlOf byGroup instructionOf codeOf functionOf moduleOf records recordStart recordOf groupOf toCode toRegisters openedFunction done toFunction toName step next nextScan scan whole outcomeOf wentOf firstRegister firstState objectIn ℕ-discrete decLt decLe
+unfolding worked-ran bit withBit number little splice listFrom firstFrom first decBoth decEither decImp decNot decAll decAny decThe mapDec decList decEach decRegion sub decTree decPlaced decPrims beside copiesOf copies subLayout flatWith fieldsFrom fieldsWith layouts flat decRun positionAt decSame asInt asPtr asArr decReg withInt withPtr anInt aPtr decConstant decCopy decOperate decZero decSigned decAddress decCheck decField decIndex decThrough decLoad decStore decWhole decNew decFree decInput decOutput decJump decBranch decCall decReturn decTyped frameFunction frameInstruction frameRegister frameMap pageOwner pageMark memoryByte view memoryNumber written wordsOf frameOf decLocal decLive localList liveList look typeOf decStands decValue operationOf flag valueIf leftBy rightBy magnitude nearestOf signedBy nearestBy biased operated signExtended need onInt onPtr onArr decIsCall decStandsAtCall onCall isIn lowest lowestNumbers decHome hasRoom roomPage unusedPlace hasPlace unownedPage allocate notZero computed decHeld calleeMap calleeRegisters returned exec effectAt effectOf closedPages closing leaving stateWrites outputWrites applyState applyOutput runOf stuckSteps decCounts decTerm decStruct structFlat decUses regionBytes treeOf treesOf fieldsOf places codePlaces callOf arithmeticOf memoryOf controlOf byGroup instructionOf codeOf functionOf moduleOf records recordStart recordOf groupOf toCode toRegisters openedFunction done toFunction toName step next nextScan scan whole outcomeOf wentOf firstRegister firstState objectIn ℕ-discrete decLt decLe
 worked-steps = refl
 
 -- "ended 42 2"
