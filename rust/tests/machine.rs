@@ -1,5 +1,5 @@
-//! The machine: the small cases C1 to C10, what kind 27 clears, every stop, opening, going on and the
-//! program's worked module, by hand.
+//! The machine: the small cases C1 to C10, what kind 27 clears, where its search ends, every stop,
+//! opening, going on and the program's worked module, by hand.
 
 mod common;
 
@@ -8,8 +8,10 @@ use reference::builder::{code, file, FunctionBuilder, ModuleBuilder};
 use reference::calls;
 use reference::file::{block_check, Record};
 use reference::host::{self, Answer};
+use reference::machine::{search, Search};
 use reference::module::decode;
-use reference::types::{sizes, Types, Variable};
+use reference::state::State;
+use reference::types::{sizes, Live, Types, Variable};
 
 fn ended(value: u32, steps: u64) -> Answer {
     [host::ENDED, u64::from(value), steps, 0]
@@ -446,6 +448,41 @@ fn a_freed_place_prevents_34() {
     let mut session = session(module, &function);
     assert_eq!(session.go(10_000), stopped(34, 63 * 6 + 3));
     assert_eq!(session.register(1), 63 * 256);
+}
+
+/// Pages from 1 on by their owners, if any, and whether all their places are used; two places to
+/// each.
+fn searched(pages: &[(Option<u8>, bool)], region: u8) -> Search {
+    let mut state = State::empty();
+    for (page, &(owner, full)) in (1..).zip(pages) {
+        state.owners[page] = owner.map(Live);
+        state.marks[page][0] = if full { 0b11 } else { 0b01 };
+    }
+    search(&state, Live(region), 2)
+}
+
+#[test]
+fn the_search_ends_at_the_first_page_with_a_place() {
+    let pages =
+        [(Some(0), true), (Some(1), false), (Some(0), false), (Some(0), false), (None, false)];
+    assert_eq!(searched(&pages, 0), Search { room: Some((3, 1)), last: 3 });
+    assert_eq!(searched(&pages, 1), Search { room: Some((2, 1)), last: 2 });
+}
+
+#[test]
+fn the_search_without_a_place_looks_at_all_the_regions_pages() {
+    let pages =
+        [(Some(0), true), (Some(1), false), (Some(0), true), (Some(2), true), (None, false)];
+    assert_eq!(searched(&pages, 0), Search { room: None, last: 3 });
+    assert_eq!(searched(&pages, 2), Search { room: None, last: 4 });
+    assert_eq!(searched(&[(Some(5), true); 63], 5), Search { room: None, last: 63 });
+}
+
+#[test]
+fn the_search_of_a_region_without_pages_looks_at_none() {
+    let pages = [(Some(0), false), (None, false), (Some(1), true)];
+    assert_eq!(searched(&pages, 2), Search { room: None, last: 0 });
+    assert_eq!(searched(&[], 0), Search { room: None, last: 0 });
 }
 
 #[test]
