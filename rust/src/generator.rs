@@ -346,6 +346,9 @@ struct Emitter<'t, 'm> {
 /// The places of a page, from the first on, that a pool's code mostly looks at.
 const POOL_PLACES: u32 = 4;
 
+/// How many of a hundred pools grow to several pages.
+const GROWING_POOLS: usize = 25;
+
 /// A page of objects that code stores into, frees, hands out again and reads, used or free.
 struct Pool {
     /// The pointer register for kinds 27 and 28, and its object's size.
@@ -824,6 +827,30 @@ impl Emitter<'_, '_> {
         self.show_at(pool, site)
     }
 
+    /// Lets the pool's region grow to several pages, perhaps in turn with another, so that a search
+    /// meets full pages and those of other regions.
+    fn grow(&mut self, pool: &Pool) -> Option<()> {
+        let numbers = self.i32_registers();
+        let (counter, one) = (*numbers.first()?, *numbers.get(1)?);
+        let mut objects = vec![instruction(27, pool.whole, 0, 0, 0)];
+        if self.rng.percent(50) {
+            let pointers = self.pointers.clone();
+            objects.push(self.pick_pair(27, &pointers, &[0])?);
+        }
+        let full_pages = self.rng.between(1, 4) as u32;
+        let more = self.rng.below(3) as u32;
+        self.constant(counter, full_pages * pool.places() + more);
+        self.constant(one, 1);
+        let start = self.code.len() as u32;
+        for new in objects {
+            self.code.push(new);
+            self.set_filled(new.a, true);
+        }
+        self.code.push(instruction(18, counter, counter, one, code::SUBTRACT));
+        self.code.push(instruction(32, counter, 0, 0, start));
+        Some(())
+    }
+
     /// Frees and refills a pool, with stores into its objects and loads from them before and after.
     fn emit_pool(&mut self) -> Option<()> {
         if self.code.len() > MAX_INSTRUCTIONS / 2 {
@@ -840,6 +867,10 @@ impl Emitter<'_, '_> {
         self.code.push(instruction(18, pool.page, pool.page, pool.address, code::AND));
         self.reserved.push(pool.page);
         let mut site = self.draw_site(&pool);
+        if self.rng.percent(GROWING_POOLS) && self.grow(&pool).is_some() {
+            // The first page has room again, and most likely the last one has, too.
+            let _may_stay_hidden = self.refill_at(&pool, site.place);
+        }
         for _ in 0..self.rng.between(3, 9) {
             match self.rng.below(10) {
                 0..3 => self.store_at(&pool, site),

@@ -3,11 +3,12 @@
 
 mod common;
 
-use common::{object_of, standing};
+use common::{object_of, object_type, standing};
 use reference::compare::{compare, Interface, Reference};
 use reference::host::{self, Answer};
-use reference::module::{decode, Module};
-use reference::state::{State, MEMORY_AT, MEMORY_BYTES, RUNNING};
+use reference::machine::search;
+use reference::module::{decode, Instruction, Module};
+use reference::state::{State, MEMORY_AT, MEMORY_BYTES, PAGE_BYTES, RUNNING};
 
 /// Errs in one point, else as the reference.
 #[derive(Clone, Copy, PartialEq, Debug)]
@@ -34,16 +35,59 @@ enum Erring {
     ClearsBehind,
     /// The object is cleared when it is freed, too.
     ClearsFreed,
+    /// Kind 27 goes on behind the first page with room, and takes a place in the next one.
+    NextPage,
 }
 
+/// Those that err in what kinds 27 and 28 do to a state.
+const OF_KIND_27: [Erring; 7] = [
+    Erring::Keeps,
+    Erring::KeepsFirst,
+    Erring::KeepsLast,
+    Erring::ClearsBefore,
+    Erring::ClearsBehind,
+    Erring::ClearsFreed,
+    Erring::NextPage,
+];
+
 /// Steps of a call that go one by one; the rest goes at once and as it should.
-const SINGLE_STEPS: u64 = 100;
+const SINGLE_STEPS: u64 = 200;
+
+/// The state after a kind 27 that took its object in the region's second page with room, if there is
+/// one; by the states before and after the right step.
+fn taken_in_the_next_page(
+    module: &Module,
+    instruction: &Instruction,
+    old: &State,
+    new: &State,
+) -> Option<State> {
+    let (size, region) = object_type(module, old, instruction);
+    let places = PAGE_BYTES as u32 / size;
+    let (first, _) = search(old, region, places).room?;
+    let mut without = old.clone();
+    without.marks[first] = [u64::MAX; 4];
+    let (page, place) = search(&without, region, places).room?;
+    let object = page * PAGE_BYTES + (place * size) as usize;
+    let mut taken = new.clone();
+    taken.marks = old.marks;
+    taken.marks[page][place as usize / 64] |= 1 << (place % 64);
+    taken.memory = old.memory.clone();
+    taken.memory[object..object + size as usize].fill(0);
+    taken.frames.last_mut()?.registers[usize::from(instruction.a)] = object as u32;
+    Some(taken)
+}
 
 impl Erring {
-    /// What the wrong machine leaves in memory after one step of the right one.
+    /// What the wrong machine leaves after one step of the right one.
     fn spoil(self, module: &Module, old: &State, state: &mut [u8]) {
         let (_, _, instruction) = standing(module, old);
         let new = State::from_bytes(state).expect("a state");
+        if self == Erring::NextPage && instruction.kind == 27 {
+            if let Some(taken) = taken_in_the_next_page(module, instruction, old, &new) {
+                state.copy_from_slice(&taken.to_bytes());
+            }
+            return;
+        }
         let memory = &mut state[MEMORY_AT..];
         match instruction.kind {
             // A page that was granted is zero for another reason.
@@ -125,8 +169,7 @@ impl Interface for Erring {
         output: &mut [u8],
         budget: u64,
     ) -> Answer {
-        use Erring::{ClearsBefore, ClearsBehind, ClearsFreed, Keeps, KeepsFirst, KeepsLast};
-        if let Keeps | KeepsFirst | KeepsLast | ClearsBefore | ClearsBehind | ClearsFreed = self {
+        if OF_KIND_27.contains(self) {
             return self.go_by_steps(file, form, state, output, budget);
         }
         let mut answer = Reference.go(file, form, state, output, budget);
@@ -171,8 +214,7 @@ fn errors_are_noticed() {
 
 #[test]
 fn errors_of_kind_27_are_noticed() {
-    use Erring::{ClearsBefore, ClearsBehind, ClearsFreed, Keeps, KeepsFirst, KeepsLast};
-    for mut erring in [Keeps, KeepsFirst, KeepsLast, ClearsBefore, ClearsBehind, ClearsFreed] {
+    for mut erring in OF_KIND_27 {
         let differences = compare(&mut erring, 4, 0, 300).differences.len();
         println!("{erring:?}: {differences} modules differ");
         assert!(differences >= 3, "{erring:?}: {differences}");

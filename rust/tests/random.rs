@@ -1,22 +1,26 @@
 //! What must hold of every module, tried on random ones: a call equals the same budget split, the
 //! state passes the state test after every step, pages are accounted for, no step changes other
-//! bytes than its own, objects are handed out clean, and states changed by hand are refused or go on
-//! soundly.
+//! bytes than its own, objects are handed out clean, the search for a place ends where it should, and
+//! states changed by hand are refused or go on soundly.
 
 mod common;
 
-use common::{object_of, standing};
+use common::{object_of, object_type, standing};
 use reference::calls;
 use reference::damage::{change_state, damage};
 use reference::file::Refusal;
 use reference::generator::{draw, Sample};
 use reference::host;
-use reference::machine::{Outcome, Run};
+use reference::machine::{search, Machine, Outcome, Run};
 use reference::module::{decode, Module, Term};
 use reference::prng::Prng;
 use reference::state::{State, MEMORY_BYTES, OUTPUT_BYTES, PAGES, PAGE_BYTES, STATE_BYTES};
 use reference::tally::Tally;
 use std::ops::Range;
+
+/// The random modules whose searches are looked at, and the steps of each.
+const SEARCHING_MODULES: u64 = 2000;
+const SEARCHING_STEPS: u32 = 5000;
 
 /// A module with its state and output, as a host keeps them.
 #[derive(Clone)]
@@ -80,6 +84,77 @@ fn every_verdict_and_answer_occurs() {
     }
     assert!(tally.ended >= 2000 && tally.running >= 100, "{tally}");
     assert!(tally.region_calls >= 2000 && tally.doubled_regions >= 200, "{tally}");
+}
+
+/// Where the search of a kind 27 ends, by the state before it.
+#[derive(Default, Debug)]
+struct Searches {
+    /// At the region's first page, at its last behind full ones, or between.
+    first: u64,
+    last: u64,
+    between: u64,
+    /// Nowhere: all the region's pages are full, or it has none.
+    full: u64,
+    none: u64,
+}
+
+impl Searches {
+    /// Counts the search of the instruction that the state stands at, and tests what it returns.
+    fn add(&mut self, module: &Module, state: &State) {
+        let (_, _, instruction) = standing(module, state);
+        if instruction.kind != 27 {
+            return;
+        }
+        let (size, region) = object_type(module, state, instruction);
+        let places = PAGE_BYTES / size as usize;
+        let used =
+            |page: usize, place: usize| state.marks[page][place / 64] >> (place % 64) & 1 == 1;
+        let is_full = |page: usize| (0..places).all(|place| used(page, place));
+        let own = |&page: &usize| state.owners[page] == Some(region);
+        let pages: Vec<usize> = (1..PAGES).filter(own).collect();
+        let (lowest, highest) = (pages.first(), pages.last().copied().unwrap_or(0));
+        let found = search(state, region, places as u32);
+        let end = found.room.map_or(PAGES, |room| room.0);
+        assert!(pages.iter().filter(|&&page| page < end).all(|&page| is_full(page)));
+        assert_eq!(found.last, highest.min(end));
+        let count = match found.room {
+            None if pages.is_empty() => &mut self.none,
+            None => &mut self.full,
+            Some((page, place)) => {
+                assert!(!used(page, place as usize) && pages.contains(&page));
+                match page {
+                    _ if Some(&page) == lowest => &mut self.first,
+                    _ if page == highest => &mut self.last,
+                    _ => &mut self.between,
+                }
+            }
+        };
+        *count += 1;
+    }
+}
+
+#[test]
+fn searches_end_in_every_way() {
+    let mut searches = Searches::default();
+    for seed in 0..SEARCHING_MODULES {
+        let sample = draw(&mut Prng::new(seed ^ 0x5ea7c4));
+        let module = decode(&sample.file()).expect("a module");
+        let words = sample.arguments.chunks_exact(4);
+        let arguments: Vec<u32> =
+            words.map(|word| u32::from_le_bytes(word.try_into().expect("4 bytes"))).collect();
+        let mut machine = Machine::new(&module);
+        let mut state = machine.open(&arguments);
+        let mut output = vec![0; OUTPUT_BYTES];
+        for _ in 0..SEARCHING_STEPS {
+            searches.add(&module, &state);
+            if machine.go(&mut state, &sample.form, &mut output, 1).outcome != Outcome::Running {
+                break;
+            }
+        }
+    }
+    println!("{searches:?}");
+    let Searches { first, last, between, full, none } = searches;
+    assert!([first, last, between, full, none].iter().all(|&count| count >= 100), "{searches:?}");
 }
 
 #[test]

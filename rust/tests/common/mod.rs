@@ -11,7 +11,7 @@ use reference::host::{self, Answer};
 use reference::module::{Function, Instruction, Module, Term};
 use reference::state::{Frame, State, OUTPUT_BYTES, STATE_BYTES};
 use reference::tool;
-use reference::types::sizes;
+use reference::types::{sizes, Live};
 use std::ops::Range;
 use std::path::{Path, PathBuf};
 
@@ -114,17 +114,24 @@ pub fn standing<'s>(
     (frame, function, &function.code[usize::from(frame.instruction)])
 }
 
-/// The bytes of the object that the top frame's register of a kind 27, after its step, or of a kind
-/// 28, before its step, points to.
-pub fn object_of(module: &Module, state: &State, instruction: &Instruction) -> Range<usize> {
+/// The object's size and the live region of a kind 27 or 28 in the top frame.
+pub fn object_type(module: &Module, state: &State, instruction: &Instruction) -> (u32, Live) {
     let frame = state.frames.last().expect("a frame");
     let function = &module.functions[usize::from(frame.function)];
     let pointer = function.register_types[usize::from(instruction.a)];
-    let Term::Pointer { target, .. } = module.terms[usize::from(pointer)] else {
+    let Term::Pointer { target, region } = module.terms[usize::from(pointer)] else {
         panic!("kinds 27 and 28 have a pointer");
     };
+    (sizes(module).terms[usize::from(target)], frame.map[usize::from(region)])
+}
+
+/// The bytes of the object that the top frame's register of a kind 27, after its step, or of a kind
+/// 28, before its step, points to.
+pub fn object_of(module: &Module, state: &State, instruction: &Instruction) -> Range<usize> {
+    let (size, _) = object_type(module, state, instruction);
+    let frame = state.frames.last().expect("a frame");
     let start = frame.registers[usize::from(instruction.a)] as usize;
-    start..start + sizes(module).terms[usize::from(target)] as usize
+    start..start + size as usize
 }
 
 /// The proved library with the feature `librcm`, else the reference interpreter in its place.
