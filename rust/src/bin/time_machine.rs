@@ -3,16 +3,21 @@
 //! reference interpreter, and the same work in WebAssembly and in Lua where their programs are
 //! there. `time_machine FOLDER [ROUNDS [COLUMNS]]`, COLUMNS being how many of these machines are
 //! timed. Times are divided by the module's steps; a ratio is the speed beside plain C's: above 1 is
-//! faster.
+//! faster. Without COLUMNS a second table follows: what a new object costs, by the clock, in a region
+//! whose first pages are full.
 
 use reference::compare::{Interface, Reference};
 use reference::host::{self, Answer};
+#[cfg(feature = "librcm")]
+use reference::library::Library;
+use reference::machine::Machine;
+use reference::module::decode;
 use reference::plain::Plain;
 use reference::state::{OUTPUT_BYTES, STATE_BYTES};
 use reference::text::assemble;
 use std::path::{Path, PathBuf};
 use std::process::Command;
-use std::time::Duration;
+use std::time::{Duration, Instant};
 
 const BUDGET: u64 = 1_000_000_000;
 const WORKLOADS: [(&str, &str); 3] = [
@@ -20,6 +25,14 @@ const WORKLOADS: [(&str, &str); 3] = [
     ("list", "linked list in a region"),
     ("ranking", "ranking a form's records"),
 ];
+
+/// Of bench/room.asm: how many pages are full first, and how many objects are then taken, a jump
+/// behind each; behind 60 of 63 pages, three hold 768.
+const FULL_PAGES: [u32; 3] = [0, 15, 60];
+const OBJECTS: u64 = 700;
+const OBJECT_STEPS: u64 = 2 * OBJECTS;
+/// The calls that are timed in a round, as each is short.
+const SHORT_CALLS: u32 = 20;
 
 /// The words of C's struct rusage; the first four are user and system time.
 type Usage = [i64; 18];
@@ -129,26 +142,123 @@ impl Work {
     }
 }
 
-/// A machine's name and the time of one run.
-type Column = (&'static str, fn(&Work) -> Duration);
+/// bench/room.asm with its argument, and the steps before the first object that is timed.
+struct Room {
+    file: Vec<u8>,
+    arguments: [u8; 4],
+    steps: u64,
+}
+
+impl Room {
+    fn new(folder: &Path, pages: u32) -> Room {
+        let text = std::fs::read_to_string(folder.join("room.asm")).expect("the module's text");
+        let file = assemble(&text).unwrap_or_else(|error| panic!("room: {error}"));
+        let module = decode(&file).expect("a module");
+        let mut machine = Machine::new(&module);
+        let mut state = machine.open(&[pages]);
+        // The object and the jump are the last instructions.
+        let first = module.functions[0].code.len() - 2;
+        let mut steps = 0;
+        while usize::from(state.frames[0].instruction) != first {
+            steps += machine.go(&mut state, &[], &mut [], 1).steps;
+        }
+        Room { file, arguments: pages.to_le_bytes(), steps }
+    }
+
+    /// The time of a call that must use its whole budget.
+    fn time(budget: u64, call: impl FnOnce(u64) -> Answer) -> Duration {
+        let start = Instant::now();
+        let answer = call(budget);
+        let time = start.elapsed();
+        assert_eq!((answer[0], answer[2]), (host::STILL_RUNNING, budget), "room: {answer:?}");
+        time
+    }
+
+    /// The objects' time: that of a call less that of one without steps.
+    fn time_here(&self, machine: &mut impl Interface) -> Duration {
+        let mut state = vec![0; STATE_BYTES];
+        let mut output = vec![0; OUTPUT_BYTES];
+        machine.open(&self.file, &self.arguments, &mut state);
+        machine.go(&self.file, &[], &mut state, &mut output, self.steps);
+        let mut shortest = |budget| {
+            let mut call = || {
+                let mut state = state.clone();
+                let go = |budget| machine.go(&self.file, &[], &mut state, &mut output, budget);
+                Room::time(budget, go)
+            };
+            (0..SHORT_CALLS).map(|_| call()).min().expect("some calls")
+        };
+        shortest(OBJECT_STEPS).saturating_sub(shortest(0))
+    }
+
+    fn time_plain(&self) -> Duration {
+        let mut output = vec![0; OUTPUT_BYTES];
+        let mut call = || {
+            let mut plain = Plain::open(&self.file, &self.arguments);
+            plain.go(&[], &mut output, self.steps);
+            Room::time(OBJECT_STEPS, |budget| plain.go(&[], &mut output, budget))
+        };
+        (0..SHORT_CALLS).map(|_| call()).min().expect("some calls")
+    }
+}
+
+/// A machine's name, the time of one run of a workload, and that of the objects where it has them.
+type Column = (&'static str, fn(&Work) -> Duration, Option<fn(&Room) -> Duration>);
 
 fn columns() -> Vec<Column> {
-    let mut columns: Vec<Column> = vec![("plain C", |work| work.time_here(plain_run))];
+    let mut columns: Vec<Column> =
+        vec![("plain C", |work| work.time_here(plain_run), Some(Room::time_plain))];
     #[cfg(feature = "librcm")]
-    columns.push(("proved", |work| {
-        work.time_here(|file, form| machine_run(&mut reference::library::Library, file, form))
-    }));
-    columns.push(("Rust", |work| {
-        work.time_here(|file, form| machine_run(&mut Reference, file, form))
-    }));
+    columns.push((
+        "proved",
+        |work| work.time_here(|file, form| machine_run(&mut Library, file, form)),
+        Some(|room| room.time_here(&mut Library)),
+    ));
+    columns.push((
+        "Rust",
+        |work| work.time_here(|file, form| machine_run(&mut Reference, file, form)),
+        Some(|room| room.time_here(&mut Reference)),
+    ));
     let there = |program: &str| Command::new(program).arg("--version").output().is_ok();
     if there("wat2wasm") && there("wasm-interp") {
-        columns.push(("wasm-interp", Work::time_wasm));
+        columns.push(("wasm-interp", Work::time_wasm, None));
     }
     if there("lua5.4") {
-        columns.push(("Lua 5.4", Work::time_lua));
+        columns.push(("Lua 5.4", Work::time_lua, None));
     }
     columns
+}
+
+/// The best of several rounds of each machine, round by round, so that a busy moment meets all alike.
+fn best(rounds: u32, times: &[impl Fn() -> Duration]) -> Vec<Duration> {
+    let mut best = vec![Duration::MAX; times.len()];
+    for _ in 0..rounds {
+        for (best, time) in best.iter_mut().zip(times) {
+            *best = time().min(*best);
+        }
+    }
+    best
+}
+
+fn print_names(title: &str, count: &str, columns: &[Column]) {
+    print!("{title:25} {count:>9}");
+    for (number, (name, ..)) in columns.iter().enumerate() {
+        print!(" {name:>11}{}", if number > 0 { "  ratio" } else { "" });
+    }
+    println!();
+}
+
+/// A line of nanoseconds for each of so many, with the speeds beside the first.
+fn print_times(title: &str, count: u64, times: &[Duration]) {
+    let each = |time: &Duration| time.as_nanos() as f64 / count as f64;
+    print!("{title:25} {count:9}");
+    for (number, time) in times.iter().enumerate() {
+        print!(" {:11.2}", each(time));
+        if number > 0 {
+            print!(" {:6.2}", each(&times[0]) / each(time));
+        }
+    }
+    println!();
 }
 
 fn main() {
@@ -156,31 +266,26 @@ fn main() {
     let folder = PathBuf::from(words.next().expect("the folder of the workloads"));
     let rounds: u32 = words.next().map_or(5, |word| word.parse().expect("a number of rounds"));
     let mut columns = columns();
-    if let Some(word) = words.next() {
+    let only = words.next();
+    if let Some(word) = &only {
         columns.truncate(word.parse().expect("a number of columns"));
     }
-    print!("{:25} {:>9}", "ns a step, best", "steps");
-    for (number, (name, _)) in columns.iter().enumerate() {
-        print!(" {name:>11}{}", if number > 0 { "  ratio" } else { "" });
-    }
-    println!();
+    print_names("ns a step, best", "steps", &columns);
     for (name, title) in WORKLOADS {
         let work = Work::new(&folder, name);
-        let mut best = vec![Duration::MAX; columns.len()];
-        // Round by round, so that a busy moment meets all machines alike.
-        for _ in 0..rounds {
-            for (best, (_, time)) in best.iter_mut().zip(&columns) {
-                *best = time(&work).min(*best);
-            }
-        }
-        let each = |time: &Duration| time.as_nanos() as f64 / work.steps() as f64;
-        print!("{title:25} {:9}", work.steps());
-        for (number, time) in best.iter().enumerate() {
-            print!(" {:11.2}", each(time));
-            if number > 0 {
-                print!(" {:6.2}", each(&best[0]) / each(time));
-            }
-        }
-        println!();
+        let times: Vec<_> = columns.iter().map(|column| || column.1(&work)).collect();
+        print_times(title, work.steps(), &best(rounds, &times));
+    }
+    if only.is_some() {
+        return;
+    }
+    columns.retain(|column| column.2.is_some());
+    println!();
+    print_names("ns a new object and jump", "objects", &columns);
+    for pages in FULL_PAGES {
+        let room = &Room::new(&folder, pages);
+        let timed = columns.iter().filter_map(|column| column.2);
+        let times: Vec<_> = timed.map(|time| move || time(room)).collect();
+        print_times(&format!("behind {pages} full pages"), OBJECTS, &best(rounds, &times));
     }
 }
