@@ -346,7 +346,7 @@ struct Emitter<'t, 'm> {
 /// The places of a page, from the first on, that a pool's code mostly looks at.
 const POOL_PLACES: u32 = 4;
 
-/// How many of a hundred pools grow to several pages.
+/// Of a hundred pools, how many are made to grow over several pages, where registers allow.
 const GROWING_POOLS: usize = 25;
 
 /// A page of objects that code stores into, frees, hands out again and reads, used or free.
@@ -868,7 +868,8 @@ impl Emitter<'_, '_> {
         self.reserved.push(pool.page);
         let mut site = self.draw_site(&pool);
         if self.rng.percent(GROWING_POOLS) && self.grow(&pool).is_some() {
-            // The first page has room again, and most likely the last one has, too.
+            // A search meets a free place in the pool's page, mostly the region's first, and most
+            // likely there is one in the last page, too.
             let _may_stay_hidden = self.refill_at(&pool, site.place);
         }
         for _ in 0..self.rng.between(3, 9) {

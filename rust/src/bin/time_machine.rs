@@ -27,7 +27,7 @@ const WORKLOADS: [(&str, &str); 3] = [
 ];
 
 /// Of bench/room.asm: how many pages are full first, and how many objects are then taken, a jump
-/// behind each; behind 60 of 63 pages, three hold 768.
+/// behind each; the three pages behind 60 hold 768.
 const FULL_PAGES: [u32; 3] = [0, 15, 60];
 const OBJECTS: u64 = 700;
 const OBJECT_STEPS: u64 = 2 * OBJECTS;
@@ -191,6 +191,7 @@ impl Room {
         shortest(OBJECT_STEPS).saturating_sub(shortest(0))
     }
 
+    /// Plain C prepares its module when it is opened, so there is no call to take off.
     fn time_plain(&self) -> Duration {
         let mut output = vec![0; OUTPUT_BYTES];
         let mut call = || {
@@ -248,7 +249,7 @@ fn print_names(title: &str, count: &str, columns: &[Column]) {
     println!();
 }
 
-/// A line of nanoseconds for each of so many, with the speeds beside the first.
+/// A line: nanoseconds for each of `count`, and each machine's speed beside the first's.
 fn print_times(title: &str, count: u64, times: &[Duration]) {
     let each = |time: &Duration| time.as_nanos() as f64 / count as f64;
     print!("{title:25} {count:9}");
