@@ -8,6 +8,7 @@ use native.Mathlib.Omega.{arith}
 use lib.Dec.{eqb, leb}
 use lib.ListN.{length}
 use Rattle.words.specs.Bytes.{Bytes, AllBytes}
+use Rattle.words.specs.Choose.{both}
 use Rattle.words.specs.Decide.{does, does-true}
 use Rattle.rules.specs.Limits.{mostForm, outputBytes, stateBytes, badInput, badLength, badState, notRunning}
 use Rattle.rules.specs.Decode.{moduleOf}
@@ -15,7 +16,8 @@ use Rattle.rules.specs.Verdict.{verdictOf, IsAccepted}
 use Rattle.rules.specs.State.{view}
 use Rattle.rules.specs.Run.{Trace, runOf}
 use Rattle.rules.specs.StateTest.{decPasses}
-use Rattle.rules.specs.Host.{Outcome, Went, refused, went, noAnswer, onVerdict, unless, goOf}
+use Rattle.rules.specs.Host.{Outcome, Went, refused, went, noAnswer, onVerdict, unless, goAt, ranged}
+use Rattle.rules.specs.declared.PageRange.{PageRange}
 use Rattle.rules.specs.declared.Verdict.{Verdict}
 use Rattle.rules.specs.declared.Verdict.the-variants.{Accepted, Refused}
 use Rattle.soundness.specs.Demand3.{went-is}
@@ -36,13 +38,13 @@ unless-answers : (test : Bool) (n : ℕ) (w : Went) → (test ≡ true → w ≢
 unless-answers true n w h = h refl
 unless-answers false n w h = refused-answers n 0
 
-pub every-answers : (f form s o : Bytes) (b : ℕ) → AllBytes form → AllBytes s → goOf f form s o b ≢ noAnswer
-unfolding goOf
-every-answers f form s o b h l =
+pub every-answers : (R : PageRange) (f form s o : Bytes) (b : ℕ) → AllBytes form → AllBytes s → goAt R f form s o b ≢ noAnswer
+unfolding goAt
+every-answers R f form s o b h l =
     let r : Trace = runOf (moduleOf f) form b s o in
     verdict-answers (verdictOf f) _ (λ acc.
     unless-answers (leb (length form) mostForm) badInput _ (λ few.
     unless-answers (eqb (length s) stateBytes && eqb (length o) outputBytes) badLength _ (λ long.
-    unless-answers (does (decPasses (moduleOf f) s)) badState _ (λ p.
+    unless-answers (does (decPasses (moduleOf f) s) && ranged R s) badState _ (λ p.
     unless-answers (eqb (view s .status) 0) notRunning _ (λ z e.
-    went-answers _ _ _ _ (sym (went-is r (accepted-moves f form b s o acc h l (does-true (decPasses (moduleOf f) s) p))) ∙ e))))))
+    went-answers _ _ _ _ (sym (went-is r (accepted-moves f form b s o acc h l (does-true (decPasses (moduleOf f) s) (both (does (decPasses (moduleOf f) s)) (ranged R s) p .0)))) ∙ e))))))

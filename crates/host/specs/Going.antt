@@ -1,4 +1,4 @@
--- Going on's answer as rules' `Went`, and `goOf` case by case, as the code goes. The answers of the code have no counterpart of `noAnswer`, so
+-- Going on's answer as rules' `Went`, and `goAt` case by case, as the code goes. The answers of the code have no counterpart of `noAnswer`, so
 -- the contract says too that no step is stuck. Assumes nothing.
 use mathlib.Core.Path.{_≡_, refl, sym, ap, _∙_, subst}
 use mathlib.Core.Logic.{_≢_}
@@ -17,8 +17,10 @@ use Rattle.rules.specs.Run.{runOf}
 use Rattle.rules.specs.StateTest.{Passes, decPasses}
 use Rattle.rules.specs.Verdict.{verdictOf, IsAccepted}
 use Rattle.rules.specs.Host as rules
+use Rattle.rules.specs.declared.PageRange.{PageRange}
 use Rattle.rules.specs.declared.Verdict.{Verdict}
 use Rattle.rules.specs.declared.Verdict.the-variants as verdicts
+use Rattle.soundness.specs.Demand3.{ranged-range}
 use Rattle.soundness.specs.ForCode.{go-went}
 use Rattle.turns.specs.Turns.{Came}
 use Rattle.run.specs.Outcomes.{outcomeMeant}
@@ -62,8 +64,10 @@ module _ (v : View) (steps : ℕ) {c : Outcome} (e : outcomeMeant c ≡ rules.ou
 -- ---- case by case
 
 -- the code's state test
-pub tested : (f s : Bytes) {c : Bool} → c ≡ does (decPasses (moduleOf f) s) → c ≡ true → Passes (moduleOf f) s
-tested f s e d = does-true (decPasses (moduleOf f) s) (sym e ∙ d)
+pub tested : (R : PageRange) (f s : Bytes) {c : Bool} → c ≡ does (decPasses (moduleOf f) s) && rules.ranged R s → c ≡ true → Passes (moduleOf f) s × (view s .range ≡ R)
+tested R f s e d =
+    let h = both (does (decPasses (moduleOf f) s)) (rules.ranged R s) (sym e ∙ d) in
+    (does-true (decPasses (moduleOf f) s) (h .0), ranged-range R s (h .1))
 
 -- the test of both lengths
 pub lengths : (s o : Bytes) → eqb (length s) stateBytes && eqb (length o) outputBytes ≡ true → (length s ≡ stateBytes) × (length o ≡ outputBytes)
@@ -71,35 +75,35 @@ lengths s o e =
     let h = both (eqb (length s) stateBytes) (eqb (length o) outputBytes) e in
     (eqb-true (length s) stateBytes (h .0), eqb-true (length o) outputBytes (h .1))
 
-module _ (f form s o : Bytes) (b : ℕ) where
-  pub go-refused : {v : Verdict} {n p : ℕ} → v ≡ verdictOf f → v ≡ verdicts.Refused n p → rules.refused n p ≡ rules.goOf f form s o b
-  unfolding rules.goOf
+module _ (R : PageRange) (f form s o : Bytes) (b : ℕ) where
+  pub go-refused : {v : Verdict} {n p : ℕ} → v ≡ verdictOf f → v ≡ verdicts.Refused n p → rules.refused n p ≡ rules.goAt R f form s o b
+  unfolding rules.goAt
   go-refused e d = on-refused rules.refused f _ e d
 
   module _ (acc : IsAccepted (verdictOf f)) where
-    go-accepted : rules.goOf f form s o b ≡ rules.goWith rules.refused (moduleOf f) form s o (rules.wentOf (runOf (moduleOf f) form b s o))
-    unfolding rules.goOf
+    go-accepted : rules.goAt R f form s o b ≡ rules.goWith rules.refused R (moduleOf f) form s o (rules.wentOf (runOf (moduleOf f) form b s o))
+    unfolding rules.goAt
     go-accepted = on-accepted rules.refused f _ acc
 
-    pub go-form : mostForm < length form → rules.refused badInput 0 ≡ rules.goOf f form s o b
+    pub go-form : mostForm < length form → rules.refused badInput 0 ≡ rules.goAt R f form s o b
     go-form h = sym (go-accepted ∙ cond-nle _ _ h)
 
     module _ (few : length form ≤ mostForm) where
-      pub go-length : eqb (length s) stateBytes && eqb (length o) outputBytes ≡ false → rules.refused badLength 0 ≡ rules.goOf f form s o b
+      pub go-length : eqb (length s) stateBytes && eqb (length o) outputBytes ≡ false → rules.refused badLength 0 ≡ rules.goAt R f form s o b
       go-length h = sym (go-accepted ∙ cond-le _ _ few ∙ cond-no _ _ h)
 
-      module _ (size : length s ≡ stateBytes) (long : length o ≡ outputBytes) {c : Bool} (e : c ≡ does (decPasses (moduleOf f) s)) where
-        pub go-failed : c ≡ false → rules.refused badState 0 ≡ rules.goOf f form s o b
+      module _ (size : length s ≡ stateBytes) (long : length o ≡ outputBytes) {c : Bool} (e : c ≡ does (decPasses (moduleOf f) s) && rules.ranged R s) where
+        pub go-failed : c ≡ false → rules.refused badState 0 ≡ rules.goAt R f form s o b
         go-failed d = sym (go-accepted ∙ cond-le _ _ few ∙ cond-yes _ _ (both-of (eq-eqb (length s) stateBytes size) (eq-eqb (length o) outputBytes long)) ∙ cond-no _ _ (sym e ∙ d))
 
-        pub go-over : c ≡ true → {n : ℕ} → n ≡ view s .status → n ≢ 0 → rules.refused notRunning 0 ≡ rules.goOf f form s o b
+        pub go-over : c ≡ true → {n : ℕ} → n ≡ view s .status → n ≢ 0 → rules.refused notRunning 0 ≡ rules.goAt R f form s o b
         go-over d q h = sym (go-accepted ∙ cond-le _ _ few ∙ cond-yes _ _ (both-of (eq-eqb (length s) stateBytes size) (eq-eqb (length o) outputBytes long)) ∙ cond-yes _ _ (sym e ∙ d) ∙ cond-ne _ _ (λ z. h (q ∙ z)))
 
       -- the answer of a run
-      pub go-ran : AllBytes form → AllBytes s → Passes (moduleOf f) s → view s .status ≡ 0 → length o ≡ outputBytes
-          → {r : Went} {n : ℕ} {t u : Bytes} → Came (moduleOf f) form s o b n t u → Answers r (view t) n → WentBy r s t o u (rules.goOf f form s o b)
-      go-ran h l p z k {r} {n} {t} {u} came a =
-          let q : rules.goOf f form s o b ≡ rules.went (rules.outcomeOf (view t)) n t u
-          = go-went f form s o b acc h few l p z k
+      pub go-ran : AllBytes form → AllBytes s → Passes (moduleOf f) s → view s .range ≡ R → view s .status ≡ 0 → length o ≡ outputBytes
+          → {r : Went} {n : ℕ} {t u : Bytes} → Came (moduleOf f) form s o b n t u → Answers r (view t) n → WentBy r s t o u (rules.goAt R f form s o b)
+      go-ran h l p y z k {r} {n} {t} {u} came a =
+          let q : rules.goAt R f form s o b ≡ rules.went (rules.outcomeOf (view t)) n t u
+          = go-went R f form s o b acc h few l p y z k
           ∙ (λ i. rules.went (rules.outcomeOf (view (sym (came .state) i))) (sym (came .counted) i) (sym (came .state) i) (sym (came .output) i)) in
           subst (λ (w : rules.Went). WentBy r s t o u w) (sym q) (record { answer = a .is t u; state = refl; output = refl })

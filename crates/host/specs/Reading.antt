@@ -1,4 +1,4 @@
--- The reader's answer as rules' `Part`, `objectOf` case by case, as the code goes, and where that part lies in the lent state.
+-- The reader's answer as rules' `Part`, `objectAt` case by case, as the code goes, and where that part lies in the lent state.
 -- Assumes nothing.
 use mathlib.Core.Path.{_≡_, refl, sym, ap, _∙_, subst}
 use mathlib.Core.Bool.{Bool, true, false, cond, _&&_}
@@ -15,15 +15,16 @@ use Rattle.rules.specs.Limits.{pageBytes, stateBytes}
 use Rattle.rules.specs.Decode.{moduleOf}
 use Rattle.rules.specs.Module.{Module}
 use Rattle.rules.specs.Flat.{size}
-use Rattle.rules.specs.State.{View, view, pagePlace}
+use Rattle.rules.specs.State.{allPages, View, view, pagePlace}
 use Rattle.rules.specs.Heap.{typeOf}
 use Rattle.rules.specs.StateTest.{decPasses}
 use Rattle.rules.specs.Verdict.{verdictOf, IsAccepted}
 use Rattle.rules.specs.Host as rules
+use Rattle.rules.specs.declared.PageRange.{PageRange}
 use Rattle.rules.specs.declared.Verdict.{Verdict}
 use Rattle.rules.specs.declared.Verdict.the-variants as verdicts
 use Rattle.soundness.specs.ForCode.{object-inside}
-use Rattle.objects.specs.Homes.{IsPart, objectAt}
+use Rattle.objects.specs.Homes.{IsPart, objectAround}
 use Rattle.objects.specs.declared.Area.{Area}
 use Rattle.guarantees.specs.Verdicts.{on-refused, on-accepted}
 use Rattle.host.specs.declared.object.Part.{Part}
@@ -31,21 +32,21 @@ use Rattle.host.specs.declared.object.Part.{Part}
 abbrev pub partMeant : Part → rules.Part
 partMeant p = record { offset = p .offset; size = p .size }
 
-module _ (f s : Bytes) (a : ℕ) where
-  pub object-refused : {v : Verdict} {n p : ℕ} → v ≡ verdictOf f → v ≡ verdicts.Refused n p → rules.emptyPart ≡ rules.objectOf f s a
-  unfolding rules.objectOf
+module _ (R : PageRange) (f s : Bytes) (a : ℕ) where
+  pub object-refused : {v : Verdict} {n p : ℕ} → v ≡ verdictOf f → v ≡ verdicts.Refused n p → rules.emptyPart ≡ rules.objectAt R f s a
+  unfolding rules.objectAt
   object-refused e d = on-refused (λ n p. rules.emptyPart) f _ e d
 
-  module _ (acc : IsAccepted (verdictOf f)) {b : Bool} (e : b ≡ does (decPasses (moduleOf f) s)) where
-    pub object-failed : b ≡ false → rules.emptyPart ≡ rules.objectOf f s a
-    unfolding rules.objectOf
+  module _ (acc : IsAccepted (verdictOf f)) {b : Bool} (e : b ≡ does (decPasses (moduleOf f) s) && rules.ranged R s) where
+    pub object-failed : b ≡ false → rules.emptyPart ≡ rules.objectAt R f s a
+    unfolding rules.objectAt
     object-failed d = sym (on-accepted (λ n p. rules.emptyPart) f _ acc ∙ cond-no _ _ (sym e ∙ d))
 
-    object-passed : b ≡ true → rules.objectOf f s a ≡ objectAt f s a
-    unfolding rules.objectOf objectAt
+    object-passed : b ≡ true → rules.objectAt R f s a ≡ objectAround f s a
+    unfolding rules.objectAt objectAround
     object-passed d = on-accepted (λ n p. rules.emptyPart) f _ acc ∙ cond-yes _ _ (sym e ∙ d)
 
-    pub object-read : b ≡ true → {r : Area} → IsPart r (objectAt f s a) → partMeant (record { offset = r .offset; size = r .size }) ≡ rules.objectOf f s a
+    pub object-read : b ≡ true → {r : Area} → IsPart r (objectAround f s a) → partMeant (record { offset = r .offset; size = r .size }) ≡ rules.objectAt R f s a
     object-read d h = (λ i. record { offset = h .offset i; size = h .size i }) ∙ sym (object-passed d)
 
 -- ---- which parts there are
@@ -72,12 +73,12 @@ finds-in m v s a (suc r) l = go (size m (typeOf m (v .fn) (v .map) (v .frames) r
     go n = found n (ltb 0 n && leb (n * suc (a % pageBytes / n)) pageBytes) refl
 
 object-finds : (f s : Bytes) (a : ℕ) → Finds s a (rules.objectOf f s a)
-unfolding rules.objectOf
-object-finds f s a = go (verdictOf f) (does (decPasses (moduleOf f) s)) refl
+unfolding rules.objectAt
+object-finds f s a = go (verdictOf f) (does (decPasses (moduleOf f) s) && rules.ranged allPages s) refl
   where
-    go : (v : Verdict) (b : Bool) → does (decPasses (moduleOf f) s) ≡ b
+    go : (v : Verdict) (b : Bool) → does (decPasses (moduleOf f) s) && rules.ranged allPages s ≡ b
         → Finds s a (rules.onVerdict (λ n p. rules.emptyPart) v (cond b (rules.objectIn (moduleOf f) (view s) a (view s .owner (a / pageBytes))) rules.emptyPart))
-    go (verdicts.Accepted t n g i) true e = finds-in (moduleOf f) (view s) s a (view s .owner (a / pageBytes)) (does-true (decPasses (moduleOf f) s) e .size)
+    go (verdicts.Accepted t n g i) true e = finds-in (moduleOf f) (view s) s a (view s .owner (a / pageBytes)) (does-true (decPasses (moduleOf f) s) (both (does (decPasses (moduleOf f) s)) (rules.ranged allPages s) e .0) .size)
     go (verdicts.Accepted t n g i) false e = nothing
     go (verdicts.Refused n p) b e = nothing
 
@@ -108,7 +109,7 @@ pub record IsPartOf (r s : RefT Bytes) (p : rules.Part) : Type 0 where
 
 -- it lies in the lent state, so that its bytes are as many as its size says
 object-fits : (f s : Bytes) (a : ℕ) → (rules.objectOf f s a .offset + rules.objectOf f s a .size ≤ length s) × (rules.objectOf f s a .offset + rules.objectOf f s a .size ≤ stateBytes)
-object-fits f s a = finds-fits (object-finds f s a) (λ h. object-inside f s a h .end)
+object-fits f s a = finds-fits (object-finds f s a) (λ h. object-inside allPages f s a h .end)
 
 object-bytes : (f s : Bytes) (a : ℕ) → length (bytesOf (rules.objectOf f s a) s) ≡ rules.objectOf f s a .size
 object-bytes f s a = simp (length-take, length-drop) (omega (arith, object-fits f s a))

@@ -7,7 +7,7 @@ ghost use Rattle.rules.specs.Decode.{moduleOf};
 ghost use Rattle.rules.specs.State.{view};
 ghost use Rattle.rules.specs.StateTest.{Passes};
 ghost use Rattle.rules.specs.Verdict.{verdictOf, IsAccepted};
-ghost use Rattle.rules.specs.Host.{goOf};
+ghost use Rattle.rules.specs.Host.{goOf, goAt};
 ghost use Rattle.host.specs.Ready.{Ready};
 ghost use Rattle.host.specs.Going.{WentBy, Answers};
 use crate::tables::Tables;
@@ -15,6 +15,7 @@ use crate::tables::passes;
 use crate::tables::tables_of;
 use prepare::code::CODE_WORDS;
 use prepare::fill;
+use rules::PageRange;
 use rules::Verdict;
 use rules::limits::BAD_INPUT;
 use rules::limits::BAD_LENGTH;
@@ -26,6 +27,7 @@ use run::outcome_of;
 use run::run::run;
 use state::Machine;
 use state::fields::status;
+use state::range::all_pages;
 
 // Going on's answer: refused with document 01's number and place; ended with a value, stopped for a reason, or running, after so many steps.
 pub enum Went {
@@ -49,9 +51,17 @@ fn answer(s: &[u8], steps: u64) -> Went
 }
 
 // Of a running state that passes the test: what the run reads is filled once, then at most budget steps.
-fn go_running(file: &[u8], t: Tables, form: &[u8], s: &mut [u8], o: &mut [u8], budget: u64) -> Went
-    requires { ⌜ Ready (now file) t ⌝ ∗ ⌜ Passes (moduleOf (now file)) (now s) ⌝ ∗ ⌜ (view (now s) .status ≡ 0) × (length (now form) ≤ mostForm) × (length (now o) ≡ outputBytes) ⌝ }
-    ensures { λ r. ⌜ WentBy r (now (s .entry)) (now (s .exit)) (now (o .entry)) (now (o .exit)) (goOf (now (file .entry)) (now (form .entry)) (now (s .entry)) (now (o .entry)) budget) ⌝ }
+fn go_running(
+    range: PageRange,
+    file: &[u8],
+    t: Tables,
+    form: &[u8],
+    s: &mut [u8],
+    o: &mut [u8],
+    budget: u64,
+) -> Went
+    requires { ⌜ Ready (now file) t ⌝ ∗ ⌜ Passes (moduleOf (now file)) (now s) × (view (now s) .range ≡ range) ⌝ ∗ ⌜ (view (now s) .status ≡ 0) × (length (now form) ≤ mostForm) × (length (now o) ≡ outputBytes) ⌝ }
+    ensures { λ r. ⌜ WentBy r (now (s .entry)) (now (s .exit)) (now (o .entry)) (now (o .exit)) (goAt range (now (file .entry)) (now (form .entry)) (now (s .entry)) (now (o .entry)) budget) ⌝ }
 {
     let starts = t.starts;
     let extents = t.extents;
@@ -89,14 +99,21 @@ fn go_running(file: &[u8], t: Tables, form: &[u8], s: &mut [u8], o: &mut [u8], b
 }
 
 // Of an accepted module, where form, state and output have their lengths: the state test, then whether the state runs.
-fn go_tested(file: &[u8], form: &[u8], s: &mut [u8], o: &mut [u8], budget: u64) -> Went
+fn go_tested(
+    range: PageRange,
+    file: &[u8],
+    form: &[u8],
+    s: &mut [u8],
+    o: &mut [u8],
+    budget: u64,
+) -> Went
     requires { ⌜ IsAccepted (verdictOf (now file)) ⌝ ∗ ⌜ (length (now form) ≤ mostForm) × (length (now s) ≡ stateBytes) × (length (now o) ≡ outputBytes) ⌝ }
-    ensures { λ r. ⌜ WentBy r (now (s .entry)) (now (s .exit)) (now (o .entry)) (now (o .exit)) (goOf (now (file .entry)) (now (form .entry)) (now (s .entry)) (now (o .entry)) budget) ⌝ }
+    ensures { λ r. ⌜ WentBy r (now (s .entry)) (now (s .exit)) (now (o .entry)) (now (o .exit)) (goAt range (now (file .entry)) (now (form .entry)) (now (s .entry)) (now (o .entry)) budget) ⌝ }
 {
     let t = tables_of(file);
-    if passes(file, t, s) {
+    if passes(range, file, t, s) {
         if status(s) == 0 {
-            go_running(file, t, form, s, o, budget)
+            go_running(range, file, t, form, s, o, budget)
         } else {
             Went::Refused {
                 number: NOT_RUNNING,
@@ -112,9 +129,16 @@ fn go_tested(file: &[u8], form: &[u8], s: &mut [u8], o: &mut [u8], budget: u64) 
 }
 
 // Of an accepted module: the form's length, then those of state and output.
-fn go_accepted(file: &[u8], form: &[u8], s: &mut [u8], o: &mut [u8], budget: u64) -> Went
+fn go_accepted(
+    range: PageRange,
+    file: &[u8],
+    form: &[u8],
+    s: &mut [u8],
+    o: &mut [u8],
+    budget: u64,
+) -> Went
     requires { ⌜ IsAccepted (verdictOf (now file)) ⌝ }
-    ensures { λ r. ⌜ WentBy r (now (s .entry)) (now (s .exit)) (now (o .entry)) (now (o .exit)) (goOf (now (file .entry)) (now (form .entry)) (now (s .entry)) (now (o .entry)) budget) ⌝ }
+    ensures { λ r. ⌜ WentBy r (now (s .entry)) (now (s .exit)) (now (o .entry)) (now (o .exit)) (goAt range (now (file .entry)) (now (form .entry)) (now (s .entry)) (now (o .entry)) budget) ⌝ }
 {
     if Machine::MOST_FORM < form.len() {
         return Went::Refused {
@@ -123,7 +147,7 @@ fn go_accepted(file: &[u8], form: &[u8], s: &mut [u8], o: &mut [u8], budget: u64
         };
     }
     if (s.len() == Machine::STATE_BYTES) & (o.len() == Machine::OUTPUT_BYTES) {
-        go_tested(file, form, s, o, budget)
+        go_tested(range, file, form, s, o, budget)
     } else {
         Went::Refused {
             number: BAD_LENGTH,
@@ -132,9 +156,16 @@ fn go_accepted(file: &[u8], form: &[u8], s: &mut [u8], o: &mut [u8], budget: u64
     }
 }
 
-// Going on for at most budget steps. A refusal leaves state and output as they were.
-pub fn go(file: &[u8], form: &[u8], s: &mut [u8], o: &mut [u8], budget: u64) -> Went
-    ensures { λ r. ⌜ WentBy r (now (s .entry)) (now (s .exit)) (now (o .entry)) (now (o .exit)) (goOf (now (file .entry)) (now (form .entry)) (now (s .entry)) (now (o .entry)) budget) ⌝ }
+// Going on for at most budget steps, of the machine with this range. A refusal leaves state and output as they were.
+pub fn go_at(
+    range: PageRange,
+    file: &[u8],
+    form: &[u8],
+    s: &mut [u8],
+    o: &mut [u8],
+    budget: u64,
+) -> Went
+    ensures { λ r. ⌜ WentBy r (now (s .entry)) (now (s .exit)) (now (o .entry)) (now (o .exit)) (goAt range (now (file .entry)) (now (form .entry)) (now (s .entry)) (now (o .entry)) budget) ⌝ }
 {
     let v = checker::verdict(file);
     match v {
@@ -143,7 +174,14 @@ pub fn go(file: &[u8], form: &[u8], s: &mut [u8], o: &mut [u8], budget: u64) -> 
             names: _,
             functions: _,
             instructions: _,
-        } => go_accepted(file, form, s, o, budget),
+        } => go_accepted(range, file, form, s, o, budget),
         Verdict::Refused { number, place } => Went::Refused { number, place },
     }
+}
+
+// Going on, of document 01's machine.
+pub fn go(file: &[u8], form: &[u8], s: &mut [u8], o: &mut [u8], budget: u64) -> Went
+    ensures { λ r. ⌜ WentBy r (now (s .entry)) (now (s .exit)) (now (o .entry)) (now (o .exit)) (goOf (now (file .entry)) (now (form .entry)) (now (s .entry)) (now (o .entry)) budget) ⌝ }
+{
+    go_at(all_pages(), file, form, s, o, budget)
 }

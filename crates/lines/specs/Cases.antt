@@ -9,7 +9,7 @@ use Rattle.words.specs.Bytes.{Bytes}
 use Rattle.rules.specs.Limits.{stateBytes, badInput, badLength}
 use Rattle.rules.specs.Decode.{moduleOf}
 use Rattle.rules.specs.Verdict.{verdictOf}
-use Rattle.rules.specs.Host.{ended, stopped, running, Went, refused, went, Opened, notOpened, opened, onVerdict, unless, firstState, openOf}
+use Rattle.rules.specs.Host.{ended, stopped, running, Went, refused, went, Opened, notOpened, opened, onVerdict, unless, firstState, openOf, openAt}
 use Rattle.rules.specs.CasesFile as files
 use Rattle.rules.specs.CasesMachine as machines
 use Rattle.rules.specs.declared.Verdict.{Verdict}
@@ -58,7 +58,7 @@ refused-alone f form {n} {p} e =
 
 -- opening looks at no byte of the old state
 open-same : (f xs s t : Bytes) → length s ≡ length t → openOf f xs s ≡ openOf f xs t
-unfolding openOf
+unfolding openAt
 open-same f xs s t e =
     ap (λ (n : ℕ). onVerdict notOpened (verdictOf f) (unless notOpened (eqb (length xs) (4 * moduleOf f .function 0 .params)) badInput
     (unless notOpened (eqb n stateBytes) badLength (opened (firstState (moduleOf f) xs))))) e

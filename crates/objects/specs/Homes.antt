@@ -259,18 +259,18 @@ part-some p x z {y} {o} d e l eo =
     }
 
 -- the answer of the reader where module and state are good
-unfoldable pub objectAt : Bytes → Bytes → ℕ → Part
-objectAt f s a = objectIn (moduleOf f) (view s) a (view s .owner (a / pageBytes))
+unfoldable pub objectAround : Bytes → Bytes → ℕ → Part
+objectAround f s a = objectIn (moduleOf f) (view s) a (view s .owner (a / pageBytes))
 
-pub object-none : (f s : Bytes) (a : ℕ) {p o : ℕ} → p ≡ a / pageBytes → o ≡ pageOwner s p → o ≡ 0 → IsPart (record { offset = 0; size = 0 }) (objectAt f s a)
-unfolding objectAt objectIn view
+pub object-none : (f s : Bytes) (a : ℕ) {p o : ℕ} → p ≡ a / pageBytes → o ≡ pageOwner s p → o ≡ 0 → IsPart (record { offset = 0; size = 0 }) (objectAround f s a)
+unfolding objectAround objectIn view
 object-none f s a {p} {o} ep eo z =
     let q : pageOwner s (a / pageBytes) ≡ 0 = rw ep at (sym eo ∙ z) in
     record { offset = rw q; size = rw q }
 
 pub object-some : (f s : Bytes) (a : ℕ) {p x o n z : ℕ} {r : Area} → p ≡ a / pageBytes → x ≡ a % pageBytes → o ≡ pageOwner s p → o ≢ 0 → n ≡ view s .frames
-    → z ≡ size (moduleOf f) (regionTree f s n (o - 1)) → IsPart r (partAt p x z) → IsPart r (objectAt f s a)
-unfolding objectAt objectIn partAt view
+    → z ≡ size (moduleOf f) (regionTree f s n (o - 1)) → IsPart r (partAt p x z) → IsPart r (objectAround f s a)
+unfolding objectAround objectIn partAt view
 object-some f s a {p} {x} {o} {n} {z} ep ex eo d en ez w =
     let q : pageOwner s (a / pageBytes) ≡ suc (o - 1) = (let e : pageOwner s (a / pageBytes) ≡ o = rw ep at (sym eo) in omega (arith, d)) in
     let t : z ≡ size (moduleOf f) (regionTree f s (view s .frames) (o - 1)) = rw en at ez in

@@ -8,7 +8,7 @@ ghost use Rattle.rules.specs.Decode.{moduleOf};
 ghost use Rattle.rules.specs.State.{frameMap};
 ghost use Rattle.positions.specs.Table.{Table};
 ghost use Rattle.stack.specs.Facts.{Known};
-ghost use Rattle.objects.specs.Homes.{lastOf, lastLocal, frameOf, termAt, regionTree, HomeIs, partAt, IsPart, objectAt};
+ghost use Rattle.objects.specs.Homes.{lastOf, lastLocal, frameOf, termAt, regionTree, HomeIs, partAt, IsPart, objectAround};
 use rules::limits::CALLEES;
 use stack::regions::head;
 use stack::regions::region;
@@ -160,7 +160,7 @@ pub fn object(
     a: u32,
 ) -> Area
     requires { ⌜ Known (now f) (now starts) functions ⌝ ∗ ⌜ Table (now f) terms structs (now tab) ⌝ }
-    ensures { λ r. ⌜ IsPart r (objectAt (now (f .entry)) (now (s .entry)) a) ⌝ }
+    ensures { λ r. ⌜ IsPart r (objectAround (now (f .entry)) (now (s .entry)) a) ⌝ }
 {
     let p = a / Machine::PAGE_BYTES;
     let owner = words::wide(state::total::owner(s, p));

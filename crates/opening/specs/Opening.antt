@@ -1,4 +1,4 @@
--- Opening's answer as rules' `Opened`, and `openOf` case by case, as the code goes. Assumes nothing.
+-- Opening's answer as rules' `Opened`, and `openAt` case by case, as the code goes. Assumes nothing.
 use mathlib.Core.Path.{_≡_, refl, sym, ap, _∙_, subst}
 use mathlib.Core.Logic.{_≢_}
 use Prim.Native.Nat.{ℕ, _*_, _≤_}
@@ -14,6 +14,7 @@ use Rattle.rules.specs.Records.{headOf}
 use Rattle.rules.specs.Decode.{functionOf, moduleOf}
 use Rattle.rules.specs.Verdict.{verdictOf, IsAccepted}
 use Rattle.rules.specs.Host as rules
+use Rattle.rules.specs.declared.PageRange.{PageRange}
 use Rattle.rules.specs.declared.Record.{Record}
 use Rattle.rules.specs.declared.Verdict.{Verdict}
 use Rattle.rules.specs.declared.Verdict.the-variants as verdicts
@@ -47,25 +48,25 @@ module _ (f : Bytes) (acc : IsAccepted (verdictOf f)) where
 
 -- ---- case by case
 
-module _ (f xs s : Bytes) where
-  pub open-refused : {v : Verdict} {n p : ℕ} → v ≡ verdictOf f → v ≡ verdicts.Refused n p → rules.notOpened n p ≡ rules.openOf f xs s
-  unfolding rules.openOf
+module _ (R : PageRange) (f xs s : Bytes) where
+  pub open-refused : {v : Verdict} {n p : ℕ} → v ≡ verdictOf f → v ≡ verdicts.Refused n p → rules.notOpened n p ≡ rules.openAt R f xs s
+  unfolding rules.openAt
   open-refused e d = on-refused rules.notOpened f _ e d
 
   module _ (acc : IsAccepted (verdictOf f)) where
-    open-accepted : rules.openOf f xs s ≡ rules.unless rules.notOpened (eqb (length xs) (4 * moduleOf f .function 0 .params)) badInput
-        (rules.unless rules.notOpened (eqb (length s) stateBytes) badLength (rules.opened (rules.firstState (moduleOf f) xs)))
-    unfolding rules.openOf
+    open-accepted : rules.openAt R f xs s ≡ rules.unless rules.notOpened (eqb (length xs) (4 * moduleOf f .function 0 .params)) badInput
+        (rules.unless rules.notOpened (eqb (length s) stateBytes) badLength (rules.opened (rules.firstAt R (moduleOf f) xs)))
+    unfolding rules.openAt
     open-accepted = on-accepted rules.notOpened f _ acc
 
     module _ {n : ℕ} (params : n ≡ moduleOf f .function 0 .params) where
-      pub open-arguments : length xs ≢ 4 * n → rules.notOpened badInput 0 ≡ rules.openOf f xs s
+      pub open-arguments : length xs ≢ 4 * n → rules.notOpened badInput 0 ≡ rules.openAt R f xs s
       open-arguments h = sym (open-accepted ∙ cond-ne _ _ (λ e. h (e ∙ ap (λ (i : ℕ). 4 * i) (sym params))))
 
-      pub open-length : length xs ≡ 4 * n → length s ≢ stateBytes → rules.notOpened badLength 0 ≡ rules.openOf f xs s
+      pub open-length : length xs ≡ 4 * n → length s ≢ stateBytes → rules.notOpened badLength 0 ≡ rules.openAt R f xs s
       open-length e h = sym (open-accepted ∙ cond-eq _ _ (e ∙ ap (λ (i : ℕ). 4 * i) params) ∙ cond-ne _ _ h)
 
-      pub open-opened : length xs ≡ 4 * n → length s ≡ stateBytes → rules.opened (rules.firstState (moduleOf f) xs) ≡ rules.openOf f xs s
+      pub open-opened : length xs ≡ 4 * n → length s ≡ stateBytes → rules.opened (rules.firstAt R (moduleOf f) xs) ≡ rules.openAt R f xs s
       open-opened e d = sym (open-accepted ∙ cond-eq _ _ (e ∙ ap (λ (i : ℕ). 4 * i) params) ∙ cond-eq _ _ d)
 
 -- ---- the contract from the answer

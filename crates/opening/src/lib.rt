@@ -1,11 +1,13 @@
 // Opening: the first state of an accepted module, function 0 with its arguments.
 ghost use Rattle.rules.specs.Verdict.{verdictOf, IsAccepted};
-ghost use Rattle.rules.specs.Host.{openOf};
+ghost use Rattle.rules.specs.Host.{openOf, openAt};
 ghost use Rattle.opening.specs.Opening.{OpenedBy};
+use rules::PageRange;
 use rules::Verdict;
 use rules::limits::BAD_INPUT;
 use rules::limits::BAD_LENGTH;
 use state::Machine;
+use state::range::all_pages;
 
 // Opening's answer: refused with document 01's number and place, or opened.
 pub enum Opened {
@@ -14,9 +16,9 @@ pub enum Opened {
 }
 
 // Of an accepted module: the arguments first, then the state's length.
-fn open_accepted(file: &[u8], arguments: &[u8], s: &mut [u8]) -> Opened
+fn open_accepted(range: PageRange, file: &[u8], arguments: &[u8], s: &mut [u8]) -> Opened
     requires { ⌜ IsAccepted (verdictOf (now file)) ⌝ }
-    ensures { λ r. ⌜ OpenedBy r (now (s .entry)) (now (s .exit)) (openOf (now (file .entry)) (now (arguments .entry)) (now (s .entry))) ⌝ }
+    ensures { λ r. ⌜ OpenedBy r (now (s .entry)) (now (s .exit)) (openAt range (now (file .entry)) (now (arguments .entry)) (now (s .entry))) ⌝ }
 {
     let h = opened::head_of(file, 0);
     let params = walk::file::parameters_of(h);
@@ -32,13 +34,13 @@ fn open_accepted(file: &[u8], arguments: &[u8], s: &mut [u8]) -> Opened
             place: 0,
         };
     }
-    Machine::fresh(arguments, s, params, words::wide(h.b));
+    Machine::fresh(range, arguments, s, params, words::wide(h.b));
     Opened::Opened
 }
 
-// Opening. It looks at no byte of the old state.
-pub fn open(file: &[u8], arguments: &[u8], s: &mut [u8]) -> Opened
-    ensures { λ r. ⌜ OpenedBy r (now (s .entry)) (now (s .exit)) (openOf (now (file .entry)) (now (arguments .entry)) (now (s .entry))) ⌝ }
+// Opening, of the machine with this range. It looks at no byte of the old state.
+pub fn open_at(range: PageRange, file: &[u8], arguments: &[u8], s: &mut [u8]) -> Opened
+    ensures { λ r. ⌜ OpenedBy r (now (s .entry)) (now (s .exit)) (openAt range (now (file .entry)) (now (arguments .entry)) (now (s .entry))) ⌝ }
 {
     let v = checker::verdict(file);
     match v {
@@ -47,7 +49,14 @@ pub fn open(file: &[u8], arguments: &[u8], s: &mut [u8]) -> Opened
             names: _,
             functions: _,
             instructions: _,
-        } => open_accepted(file, arguments, s),
+        } => open_accepted(range, file, arguments, s),
         Verdict::Refused { number, place } => Opened::Refused { number, place },
     }
+}
+
+// Opening, of document 01's machine.
+pub fn open(file: &[u8], arguments: &[u8], s: &mut [u8]) -> Opened
+    ensures { λ r. ⌜ OpenedBy r (now (s .entry)) (now (s .exit)) (openOf (now (file .entry)) (now (arguments .entry)) (now (s .entry))) ⌝ }
+{
+    open_at(all_pages(), file, arguments, s)
 }

@@ -4,8 +4,8 @@ ghost use mathlib.Core.Path.{_≡_};
 ghost use mathlib.Core.List.{[], _∷_};
 ghost use Prim.Native.Nat.{suc, _+_, _*_, _<_, _≤_};
 ghost use lib.ListN.{length};
-ghost use Rattle.rules.specs.Limits.{stateBytes, pages, pageBytes, firstPage, pastPage, liveRegions, markBytes};
-ghost use Rattle.rules.specs.State.{view, pageOwner, pageMark, written, putOwner, putMark, clearMemory, clearPage};
+ghost use Rattle.rules.specs.Limits.{stateBytes, pages, pageBytes, liveRegions, markBytes};
+ghost use Rattle.rules.specs.State.{lowPage, endPage, view, pageOwner, pageMark, written, putOwner, putMark, clearMemory, clearPage};
 ghost use Rattle.rules.specs.Heap.{placesInPage};
 ghost use Rattle.rules.specs.Step.{unusedPlace, unownedPage};
 ghost use Rattle.state.specs.Marks.{lowestZero};
@@ -19,8 +19,11 @@ use state::fields::clear_mark;
 use state::fields::clear_memory;
 use state::fields::owner;
 use state::fields::put_owner;
+use state::fields::range;
 use state::fields::set_mark;
 use state::places::marks_place;
+use state::range::end_page;
+use state::range::low_page;
 use words::bit_of;
 use words::wide;
 
@@ -101,9 +104,9 @@ fn lowest_place(s: &[u8], p: u32, from: u32, n: u32) -> u32
 // The entries of `known`, one a page: how many places, from the first on, are known to be used.
 pub const KNOWN: usize = Machine::PAGES as usize;
 
-// The lowest page from low on, and below past, that nobody owns; else past.
+// The lowest of the pages low to past - 1 that nobody owns; else past, or low where that is higher.
 pub fn unowned_page(s: &[u8], low: u32, past: u32) -> u32
-    requires { ⌜ (length (now s) ≡ stateBytes) × (low ≤ past) × (past ≤ pages) ⌝ }
+    requires { ⌜ (length (now s) ≡ stateBytes) × (past ≤ pages) ⌝ }
     ensures { λ q. ⌜ q ≡ unownedPage (pageOwner (now (s .entry))) low past ⌝ }
 {
     let mut q = low;
@@ -127,15 +130,23 @@ fn place_in(s: &[u8], known: &mut [u32; KNOWN], p: u32, n: u32) -> u32
     j
 }
 
-// The lowest page that is region r's and has an unused place, with its lowest; else the page past the last one and n. The search looks at
-// the region's own pages alone and ends at the first with room; the last that it looked at is 0 where the region has none.
-pub fn find_room(s: &[u8], known: &mut [u32; KNOWN], r: LiveRegion, n: u32) -> Room
-    requires { ⌜ (length (now s) ≡ stateBytes) × (n ≤ pageBytes) × Used (now known) (now s) ⌝ }
-    ensures { λ x. ⌜ Found (pageOwner (now (s .entry))) (pageMark (now (s .entry))) firstPage pastPage (r .0) n (x .page) (x .place) (x .last) × Used (now (known .exit)) (now (s .entry)) ⌝ }
+// The lowest of the pages low to past - 1 that is region r's and has an unused place, with its lowest; else past, or low where that is higher,
+// and n. The search looks at the region's own pages alone and ends at the first with room; the last that it looked at is 0 where the region
+// has none.
+pub fn find_room(
+    s: &[u8],
+    known: &mut [u32; KNOWN],
+    low: u32,
+    past: u32,
+    r: LiveRegion,
+    n: u32,
+) -> Room
+    requires { ⌜ (length (now s) ≡ stateBytes) × (past ≤ pages) × (n ≤ pageBytes) × Used (now known) (now s) ⌝ }
+    ensures { λ x. ⌜ Found (pageOwner (now (s .entry))) (pageMark (now (s .entry))) low past (r .0) n (x .page) (x .place) (x .last) × Used (now (known .exit)) (now (s .entry)) ⌝ }
 {
-    let mut p = Machine::FIRST_PAGE;
+    let mut p = low;
     let mut last: u32 = 0;
-    while p < Machine::PAST_PAGE {
+    while p < past {
         if wide(owner(s, p)) == wide(r.0) + 1 {
             let j = place_in(s, known, p, n);
             if j < n {
@@ -156,19 +167,23 @@ pub fn find_room(s: &[u8], known: &mut [u32; KNOWN], r: LiveRegion, n: u32) -> R
     }
 }
 
-// What a new object of region r takes, n places to a page: rules' `allocate` for objects of a size with n places (chosen-from).
+// What a new object of region r takes of the pages that the machine may own, n places to a page: rules' `allocateIn` for objects of a
+// size with n places (chosen-from).
 pub fn allocate(s: &[u8], known: &mut [u32; KNOWN], r: LiveRegion, n: u32) -> Chosen
     requires { ⌜ (length (now s) ≡ stateBytes) × (n ≤ pageBytes) × Used (now known) (now s) ⌝ }
-    ensures { λ c. ⌜ (c ≡ chosen (view (now (s .entry)) .owner) (view (now (s .entry)) .mark) firstPage pastPage (r .0) n) × Within pastPage n c × Used (now (known .exit)) (now (s .entry)) ⌝ }
+    ensures { λ c. ⌜ (c ≡ chosen (view (now (s .entry)) .owner) (view (now (s .entry)) .mark) (lowPage (view (now (s .entry)) .range)) (endPage (view (now (s .entry)) .range)) (r .0) n) × Within pages n c × Used (now (known .exit)) (now (s .entry)) ⌝ }
 {
-    let x = find_room(s, known, r, n);
+    let own = range(s);
+    let low = low_page(own);
+    let past = end_page(own);
+    let x = find_room(s, known, low, past, r, n);
     let p = x.page;
     let j = x.place;
-    if p < Machine::PAST_PAGE {
+    if p < past {
         return Chosen::Place(p, j);
     }
-    let q = unowned_page(s, Machine::FIRST_PAGE, Machine::PAST_PAGE);
-    if q < Machine::PAST_PAGE {
+    let q = unowned_page(s, low, past);
+    if q < past {
         Chosen::Page(q)
     } else {
         Chosen::Nothing

@@ -16,7 +16,7 @@ use Rattle.rules.specs.Limits.{blockBytes, mostBlocks, mostForm, stateBytes, ba
 use Rattle.rules.specs.File.{blocks, lengthRight, blockStage}
 use Rattle.rules.specs.Stages.{verdict}
 use Rattle.rules.specs.Verdict.{verdictOf, recordRules}
-use Rattle.rules.specs.Host.{Went, refused, Opened, notOpened, opened, onVerdict, goOf, openOf}
+use Rattle.rules.specs.Host.{Went, refused, Opened, notOpened, opened, onVerdict, goOf, openOf, goAt}
 use Rattle.rules.specs.declared.Verdict.the-variants.{Refused}
 use Rattle.lines.specs.Lines.{verdictLine, wentLine, secondLine, printed}
 use Rattle.lines.specs.Cases.{refused-alone}
@@ -57,7 +57,7 @@ file-enough f form = ⊎-elim short long (lt-or-le (length f) fileBuffer)
 
 -- going on looks at no byte of a form that is too long
 go-long : (f form s o : Bytes) (b : ℕ) → formBuffer ≤ length form → goOf f form s o b ≡ onVerdict refused (verdictOf f) (refused badInput 0)
-unfolding goOf
+unfolding goAt
 go-long f form s o b h =
     let l : mostForm < length form = omega arith in
     ap (λ (w : Went). onVerdict refused (verdictOf f) w) (cond-nle _ _ l)

@@ -4,8 +4,9 @@ use Prim.Native.Nat.{ℕ}
 use lib.ListN.{length, getD}
 use Rattle.rules.specs.Types.{RegionKind, variable, region, Tree, int, ptr, arr, struct}
 use Rattle.rules.specs.Module.{Instruction, call, Function, Module}
-use Rattle.rules.specs.State.{View}
+use Rattle.rules.specs.State.{allPages, View}
 use Rattle.rules.specs.Step.{Effect, effectOf}
+use Rattle.rules.specs.declared.PageRange.{PageRange}
 
 -- ---- modules
 
@@ -96,13 +97,18 @@ frame g i registers regions = record { function = g; instruction = i; registers 
 abbrev pub at : List Frame → ℕ → Frame
 at frames k = getD frames k (frame 0 0 [] [])
 
--- running, with these frames, the lowest first, and these owners of the pages from 0 on; all else is 0
-abbrev pub stateOf : List Frame → (owners : List ℕ) → View
-stateOf frames owners = record {
+-- a range of pages, by how many are not in it below and above
+abbrev pub allBut : (below above : ℕ) → PageRange
+allBut below above = record { below = below; above = above }
+
+-- running, with this range, these frames, the lowest first, and these owners of the pages from 0 on; all else is 0
+abbrev pub stateIn : PageRange → List Frame → (owners : List ℕ) → View
+stateIn R frames owners = record {
   status = 0;
   result = 0;
   frames = length frames;
   outputCount = 0;
+  range = R;
   fn = λ k. at frames k .function;
   pc = λ k. at frames k .instruction;
   reg = λ k a. getD (at frames k .registers) a 0;
@@ -111,6 +117,10 @@ stateOf frames owners = record {
   mark = λ p j. 0;
   memory = λ x. 0;
 }
+
+-- with all pages
+abbrev pub stateOf : List Frame → (owners : List ℕ) → View
+stateOf = stateIn allPages
 
 -- one frame, of function 0 at instruction 0, whose region variable 0 leads to region 0; page 1 is region 0's
 abbrev pub oneFrame : List ℕ → View

@@ -1,5 +1,5 @@
 -- Document 02, P1, as it is claimed of a step: which addresses lie in which place, what an effect clears, what hands a place out, and
--- steps that the claim excludes, by computation. Assumes nothing.
+-- steps that the claim excludes, those outside a machine's own pages among them, by computation. Assumes nothing.
 use mathlib.Core.Path.{_≡_, refl}
 use mathlib.Core.Bool.{Bool, true, false}
 use mathlib.Core.Logic.{inl, inr}
@@ -15,15 +15,15 @@ use Rattle.rules.specs.Types.{sub}
 use Rattle.rules.specs.Module.{Module}
 use Rattle.words.specs.First.{firstFrom, first}
 use Rattle.rules.specs.Flat.{beside, copiesOf, copies, subLayout, flatWith, fieldsFrom, fieldsWith, layouts, flat}
-use Rattle.rules.specs.State.{View, view, putOwner, putMark, written, frameFunction, frameInstruction, frameRegister, frameMap, pageOwner, pageMark, memoryByte, wordsOf, frameOf}
+use Rattle.rules.specs.State.{View, view, putRange, putOwner, putMark, written, frameFunction, frameInstruction, frameRegister, frameMap, pageOwner, pageMark, memoryByte, wordsOf, frameOf}
 use Rattle.rules.specs.Heap.{decLocal, decLive, look, typeOf}
-use Rattle.rules.specs.Host.{firstRegister, firstState}
-use Rattle.rules.specs.Step.{Effect, save, takePlace, grantPage, freePlace, goTo, isIn, lowest, lowestNumbers}
+use Rattle.rules.specs.Host.{firstRegister, firstAt}
+use Rattle.rules.specs.Step.{Effect, fetch, save, takePlace, grantPage, freePlace, goTo, isIn, lowest, lowestNumbers}
 use Rattle.rules.specs.Writes.{stateWrites, applyState}
 use Rattle.rules.specs.Footprint.{span, noBytes, footprint}
 use Rattle.rules.specs.Run.{Step}
-use Rattle.rules.specs.SafeStep.{InObject, InPlace, placeBytes, HandsOut, place, page, NewZero, FreeKept, UsedKept, Taken, UsedStays}
-use Rattle.rules.specs.CaseStates.{cells}
+use Rattle.rules.specs.SafeStep.{InObject, InPlace, placeBytes, HandsOut, place, page, NewZero, FreeKept, UsedKept, Taken, UsedStays, InOwnPages}
+use Rattle.rules.specs.CaseStates.{cells, allBut}
 use Rattle.rules.specs.CasesMachine.{nines, ninesStep}
 
 -- ---- places
@@ -61,7 +61,7 @@ pub record Places : Type 0 where
   pub past-pages : inPlace 64 0 16384 ≡ false
 
 pub places : Places
-unfolding inPlaceOf decInPlace decInObject bit withBit number little splice listFrom mapDec decBoth decLocal decLive look typeOf firstFrom first beside copiesOf copies subLayout flatWith fieldsFrom fieldsWith layouts flat frameFunction frameInstruction frameRegister frameMap pageOwner pageMark memoryByte view written wordsOf frameOf firstRegister firstState nines lowestNumbers lowest isIn sub decLt decLe ℕ-discrete
+unfolding inPlaceOf decInPlace decInObject bit withBit number little splice listFrom mapDec decBoth decLocal decLive look typeOf firstFrom first beside copiesOf copies subLayout flatWith fieldsFrom fieldsWith layouts flat frameFunction frameInstruction frameRegister frameMap pageOwner pageMark memoryByte view written wordsOf frameOf firstRegister firstAt nines lowestNumbers lowest isIn sub decLt decLe ℕ-discrete
 places = record {
   first = refl;
   last = refl;
@@ -143,6 +143,10 @@ withUsed = written (putMark nines 1 5 1 ∷ []) nines
 unfoldable pub withUsedNext : Bytes
 withUsedNext = written (putOwner 2 1 ∷ putMark nines 2 5 1 ∷ []) nines
 
+-- the state of nines, of a machine that may own pages 2 and 3 alone
+unfoldable pub ofTwoPages : Bytes
+ofTwoPages = written (putRange (allBut 1 60) ∷ []) nines
+
 in-place : (s : Bytes) (p j i : ℕ) → inPlaceOf s p j i ≡ true → InPlace (cells []) (view s) p j i
 unfolding inPlaceOf
 in-place s p j i e = does-true (decInPlace (cells []) (view s) p j i) e
@@ -162,9 +166,13 @@ pub record Excluded : Type 0 where
   pub taken-elsewhere : ¬ Taken (cells []) (stepFrom nines (takePlace 1 5 4 0)) 1 5 0
   -- a free that takes the mark of another page's object: place 261 of page 1 would be place 5 of page 2
   pub other-freed : ¬ UsedStays (cells []) (stepFrom withUsedNext (freePlace 1 261))
+  -- of a machine that may own pages 2 and 3 alone: a load from page 1, a store into page 4, a grant of page 4
+  pub loaded-below : ¬ InOwnPages (stepFrom ofTwoPages (fetch 0 0 511 1))
+  pub stored-above : ¬ InOwnPages (stepFrom ofTwoPages (save 0 1024 1 8))
+  pub granted-above : ¬ InOwnPages (stepFrom ofTwoPages (grantPage 4 0 0))
 
 pub excluded : Excluded
-unfolding inPlaceOf decInPlace decInObject stateWrites applyState withUsed withUsedNext ninesStep bit withBit number little splice listFrom mapDec decBoth decLocal decLive look typeOf firstFrom first beside copiesOf copies subLayout flatWith fieldsFrom fieldsWith layouts flat frameFunction frameInstruction frameRegister frameMap pageOwner pageMark memoryByte view written wordsOf frameOf firstRegister firstState nines lowestNumbers lowest isIn sub decLt decLe ℕ-discrete
+unfolding inPlaceOf decInPlace decInObject stateWrites applyState withUsed withUsedNext ofTwoPages ninesStep bit withBit number little splice listFrom mapDec decBoth decLocal decLive look typeOf firstFrom first beside copiesOf copies subLayout flatWith fieldsFrom fieldsWith layouts flat frameFunction frameInstruction frameRegister frameMap pageOwner pageMark memoryByte view written wordsOf frameOf firstRegister firstAt nines lowestNumbers lowest isIn sub decLt decLe ℕ-discrete
 excluded = record {
   as-it-was = λ h. let z : _≡_ {A = ℕ} 9 0 = h 1 0 256 (in-place nines 1 0 256 refl) (place 0 0 refl) in absurd (omega arith);
   last-byte-kept = λ h. let z : _≡_ {A = ℕ} 9 0 = h 1 0 260 (in-place nines 1 0 260 refl) (place 4 0 refl) in absurd (omega arith);
@@ -187,4 +195,7 @@ excluded = record {
       | inr e ↦ let z : _≡_ {A = ℕ} 1 0 = e in absurd (omega arith)
     ]
   ];
+  loaded-below = λ h. let z = h 511 (omega arith) (inl (omega arith, omega arith)) in absurd (omega (arith, z));
+  stored-above = λ h. let z = h 1024 (omega arith) (inr (inl (omega arith, omega arith))) in absurd (omega (arith, z));
+  granted-above = λ h. let z = h 1024 (omega arith) (inr (inr (omega arith, omega arith))) in absurd (omega (arith, z));
 }

@@ -1,25 +1,33 @@
 -- Document 01, "State test", by computation on states as the accessors give them: for each clause a state that passes and one that
--- fails for this reason alone. (The test of a state's 24,576 bytes is too long to compute.) Assumes nothing.
+-- fails for this reason alone. (The test of a state's 24,576 bytes is too long to compute.) Then which calls have an answer only for states
+-- of their machine's page range. Assumes nothing.
 use mathlib.Core.Path.{_≡_, refl}
-use mathlib.Core.Bool.{Bool, true, false, cond}
+use mathlib.Core.Bool.{Bool, true, false, cond, false≢true, _&&_}
 use mathlib.Core.List.{List, [], _∷_, _++_}
 use mathlib.Core.Logic.{inl, inr}
-use Prim.Native.Nat.{ℕ, _+_, _-_, _<_, _≤_}
+use Prim.Native.Nat.{ℕ, _+_, _-_, _/_, _<_, _≤_}
 use native.Mathlib.Decide.{ℕ-discrete, decLt, decLe}
-use lib.Dec.{ltb}
+use native.Mathlib.Omega.{arith}
+use lib.Dec.{eqb, ltb, leb}
 use lib.ListN.{length, getD, replicate}
 use Rattle.words.specs.Bytes.{Bytes, byteAt}
 use Rattle.words.specs.First.{firstFrom, first}
-use Rattle.rules.specs.Limits.{pageBytes, mostFrames, outputBytes, stateBytes, headerEnd, ownersAt, stackEnd, spareIn, memoryAt, frameBytes}
+use Rattle.rules.specs.Limits.{pageBytes, mostForm, mostFrames, outputBytes, stateBytes, headerEnd, ownersAt, stackEnd, spareIn, memoryAt, frameBytes, badLength, badState}
 use Rattle.words.specs.Decide.{does, decBoth, decEither, decImp, decNot, decAll, decAny, mapDec, decList, decEach}
 use Rattle.rules.specs.Types.{region, int, ptr, decRegion, sub, decTree}
 use Rattle.rules.specs.Module.{call, return, Module}
-use Rattle.rules.specs.State.{View, view, memoryNumber, framePlace}
-use Rattle.rules.specs.CaseStates.{functionWith, moduleWith, wordAndPointer, to, named, Frame, frame, stateOf}
-use Rattle.rules.specs.StateTest.{Passes, decListed, decStatus, decChained, decFrames, decPage, decContents, decMarksEnd, decSpare}
+use Rattle.rules.specs.State.{allPages, View, view, memoryNumber, framePlace}
+use Rattle.rules.specs.CaseStates.{functionWith, moduleWith, wordAndPointer, to, named, Frame, frame, allBut, stateIn, stateOf}
+use Rattle.rules.specs.StateTest.{Passes, decPasses, decListed, decStatus, decChained, decFrames, decPage, decContents, decMarksEnd, decSpare}
 use Rattle.rules.specs.Flat.{decPlaced, decPrims, beside, copiesOf, copies, subLayout, flatWith, fieldsFrom, fieldsWith, layouts, flat, decRun, positionAt}
 use Rattle.rules.specs.Heap.{decLocal, decLive, look, typeOf, decStands, decValue}
 use Rattle.rules.specs.Step.{decIsCall, decStandsAtCall}
+use Rattle.rules.specs.Decode.{moduleOf}
+use Rattle.rules.specs.Verdict.{verdictOf}
+use Rattle.rules.specs.Host.{Part, emptyPart, failed, passed, onVerdict, goWith, testAt, objectIn, objectAt, ranged}
+use Rattle.rules.specs.declared.PageRange.{PageRange}
+use Rattle.rules.specs.declared.Verdict.{Verdict}
+use Rattle.rules.specs.declared.Verdict.the-variants.{Accepted, Refused}
 
 -- ---- the states
 
@@ -43,13 +51,14 @@ both = lower ∷ upper ∷ []
 abbrev pub owners : List ℕ
 owners = 0 ∷ 6 ∷ 1 ∷ []
 
--- with these frames, owners, marks of each page, and bytes of page 1
-abbrev pub filled : List Frame → List ℕ → List (List ℕ) → List ℕ → View
-filled frames owners marks bytes = let v = stateOf frames owners in record {
+-- with this range, these frames, owners, marks of each page, and bytes of page 1
+abbrev pub filled : PageRange → List Frame → List ℕ → List (List ℕ) → List ℕ → View
+filled R frames owners marks bytes = let v = stateIn R frames owners in record {
   status = 0;
   result = 0;
   frames = v .frames;
   outputCount = 0;
+  range = v .range;
   fn = v .fn;
   pc = v .pc;
   reg = v .reg;
@@ -65,6 +74,7 @@ statusPasses status frames result = let v = stateOf [] [] in does (decStatus (re
   result = result;
   frames = frames;
   outputCount = 0;
+  range = allPages;
   fn = v .fn;
   pc = v .pc;
   reg = v .reg;
@@ -79,11 +89,15 @@ framesPass frames = let v = stateOf frames [] in does (decFrames tested (v .fn) 
 
 -- by registers and owners; by marks; by the bytes of page 1
 unfoldable pub contentsPass : List Frame → List ℕ → List (List ℕ) → List ℕ → Bool
-contentsPass frames owners marks bytes = let v = filled frames owners marks bytes in does (decContents tested v (v .frames))
+contentsPass frames owners marks bytes = let v = filled allPages frames owners marks bytes in does (decContents tested v (v .frames))
+
+-- by the range, with pages 1 and 2 owned
+unfoldable pub rangePasses : (below above : ℕ) → Bool
+rangePasses below above = let v = filled (allBut below above) both owners [] [] in does (decContents tested v (v .frames))
 
 -- the first n frames are in use
 unfoldable pub sparePasses : List Frame → ℕ → List (List ℕ) → Bool
-sparePasses frames n marks = does (decSpare tested (filled frames owners marks []) n)
+sparePasses frames n marks = does (decSpare tested (filled allPages frames owners marks []) n)
 
 -- function 0 has two local regions
 abbrev pub twice : Module
@@ -179,6 +193,10 @@ pub record ContentTests : Type 0 where
   -- "page 0 is unowned; owners are live; unowned pages have no used marks"
   pub contents : contentsPass (both) (owners) ([] ∷ (1 ∷ []) ∷ []) (3 ∷ 0 ∷ 0 ∷ 0 ∷ 8 ∷ 1 ∷ 0 ∷ 0 ∷ []) ≡ true
   pub page-0-owned : contentsPass (both) (1 ∷ 6 ∷ 1 ∷ []) ([]) ([]) ≡ false
+  -- pages outside the range are unowned too
+  pub owned-in-range : rangePasses 0 61 ≡ true
+  pub owned-below : rangePasses 1 0 ≡ false
+  pub owned-above : rangePasses 0 62 ≡ false
   pub owner-not-live : contentsPass (both) (0 ∷ 6 ∷ 1 ∷ 3 ∷ []) ([]) ([]) ≡ false
   pub mark-unowned : contentsPass (both) (owners) ([] ∷ [] ∷ [] ∷ (0 ∷ 1 ∷ []) ∷ []) ([]) ≡ false
   -- "each register .. is a value of its type", in every frame
@@ -188,10 +206,13 @@ pub record ContentTests : Type 0 where
   pub primitive-free : contentsPass (both) (owners) ([]) (replicate 252 0 ++ 0 ∷ 2 ∷ 0 ∷ 0 ∷ []) ≡ false
 
 pub contentTests : ContentTests
-unfolding firstFrom first decBoth decEither decImp decNot decAll decAny mapDec decList decEach decRegion sub decTree decPlaced decPrims beside copiesOf copies subLayout flatWith fieldsFrom fieldsWith layouts flat decRun positionAt decLocal decLive look typeOf decStands decValue memoryNumber decIsCall decStandsAtCall decListed decStatus decChained decFrames decPage decContents decMarksEnd decSpare statusPasses framesPass contentsPass sparePasses ℕ-discrete decLt decLe
+unfolding firstFrom first decBoth decEither decImp decNot decAll decAny mapDec decList decEach decRegion sub decTree decPlaced decPrims beside copiesOf copies subLayout flatWith fieldsFrom fieldsWith layouts flat decRun positionAt decLocal decLive look typeOf decStands decValue memoryNumber decIsCall decStandsAtCall decListed decStatus decChained decFrames decPage decContents decMarksEnd decSpare statusPasses framesPass contentsPass rangePasses sparePasses ℕ-discrete decLt decLe
 contentTests = record {
   contents = refl;
   page-0-owned = refl;
+  owned-in-range = refl;
+  owned-below = refl;
+  owned-above = refl;
   owner-not-live = refl;
   mark-unowned = refl;
   register-byte = refl;
@@ -246,4 +267,41 @@ byteTests = record {
   behind-header = λ m s h i l u. h .unread i (inl (l, u));
   behind-frames = λ m s h i l u. h .unread i (inr (inl (l, u)));
   frame-ends = λ m s h k b i l u. h .unread i (inr (inr (record { frame = k; below = b; low = l; high = u })));
+}
+
+-- ---- the page range: what is not refused is a state of the machine that is called
+
+-- the test of the range, behind those of lengths and beside the state test
+third : (a b c d e : Bool) → cond a (cond b (cond (c && d) e false) false) false ≡ true → d ≡ true
+third true true true true e h = refl
+third true true true false e h = absurd (false≢true h)
+third true true false d e h = absurd (false≢true h)
+third true false c d e h = absurd (false≢true h)
+third false b c d e h = absurd (false≢true h)
+
+passed-last : (v : Verdict) (a b c : Bool) (n p i q : ℕ) → onVerdict failed v (cond a (cond (b && c) passed (failed n p)) (failed i q)) ≡ passed → c ≡ true
+passed-last (Accepted t k g j) true true true n p i q h = refl
+passed-last (Accepted t k g j) true true false n p i q h = let z : _≡_ {A = ℕ} 0 1 = cc in absurd (omega arith)
+passed-last (Accepted t k g j) true false c n p i q h = let z : _≡_ {A = ℕ} 0 1 = cc in absurd (omega arith)
+passed-last (Accepted t k g j) false b c n p i q h = let z : _≡_ {A = ℕ} 0 1 = cc in absurd (omega arith)
+passed-last (Refused k j) a b c n p i q h = let z : _≡_ {A = ℕ} 0 1 = cc in absurd (omega arith)
+
+found-by : (v : Verdict) (b c : Bool) (x : Part) → 0 < onVerdict (λ n p. emptyPart) v (cond (b && c) x emptyPart) .size → c ≡ true
+found-by (Accepted t k g j) true true x h = refl
+found-by (Accepted t k g j) true false x h = absurd (omega arith)
+found-by (Accepted t k g j) false c x h = absurd (omega arith)
+found-by (Refused k j) b c x h = absurd (omega arith)
+
+pub record RangeTests : Type 0 where
+  -- of a call that is not refused, of a state that passes, of an object that is found
+  pub gone-on : (R : PageRange) (m : Module) (form s o : Bytes) → goWith (λ n p. false) R m form s o true ≡ true → ranged R s ≡ true
+  pub tested : (R : PageRange) (f s : Bytes) → testAt R f s ≡ passed → ranged R s ≡ true
+  pub read : (R : PageRange) (f s : Bytes) (a : ℕ) → 0 < objectAt R f s a .size → ranged R s ≡ true
+
+pub rangeTests : RangeTests
+unfolding testAt objectAt
+rangeTests = record {
+  gone-on = λ R m form s o h. third (leb (length form) mostForm) (eqb (length s) stateBytes && eqb (length o) outputBytes) (does (decPasses m s)) (ranged R s) (cond (eqb (view s .status) 0) true false) h;
+  tested = λ R f s h. passed-last (verdictOf f) (eqb (length s) stateBytes) (does (decPasses (moduleOf f) s)) (ranged R s) badState 0 badLength 0 h;
+  read = λ R f s a h. found-by (verdictOf f) (does (decPasses (moduleOf f) s)) (ranged R s) (objectIn (moduleOf f) (view s) a (view s .owner (a / pageBytes))) h;
 }

@@ -1,6 +1,6 @@
 -- Document 01, "From the input", "From the state": opening, going on, the state test and the reader of states, on bytes. Each
--- gives its one answer and the bytes that it leaves, for all inputs; refusals come in the order 1 to 8, 9, 20, 21, 22.
--- Assumes nothing.
+-- gives its one answer and the bytes that it leaves, for all inputs; refusals come in the order 1 to 8, 9, 20, 21, 22. The definitions
+-- are those of a machine with any page range (`goAt`, ..); document 01's machine has them all but page 0 (`goOf`, ..). Assumes nothing.
 use mathlib.Core.Bool.{Bool, cond, _&&_}
 use mathlib.Core.List.{List, [], _∷_}
 use Prim.Native.Nat.{ℕ, zero, suc, _+_, _*_, _/_, _%_}
@@ -13,11 +13,12 @@ use Rattle.rules.specs.Module.{Module}
 use Rattle.rules.specs.Flat.{size}
 use Rattle.rules.specs.Decode.{moduleOf}
 use Rattle.rules.specs.Verdict.{verdictOf}
-use Rattle.rules.specs.State.{View, view, written, putFrames, putFrame, pagePlace}
+use Rattle.rules.specs.State.{allPages, View, view, written, putRange, putFrames, putFrame, pagePlace}
 use Rattle.rules.specs.Heap.{typeOf}
 use Rattle.rules.specs.Step.{lowestNumbers}
 use Rattle.rules.specs.Run.{Trace, noSteps, runOf, stuckSteps}
 use Rattle.rules.specs.StateTest.{decPasses}
+use Rattle.rules.specs.declared.PageRange.{PageRange}
 use Rattle.rules.specs.declared.Verdict.{Verdict}
 use Rattle.rules.specs.declared.Verdict.the-variants.{Accepted, Refused}
 
@@ -63,13 +64,17 @@ onVerdict refuse (Refused n p) b = refuse n p
 abbrev pub unless : {B : Type 0} → (ℕ → ℕ → B) → Bool → ℕ → B → B
 unless refuse test n b = cond test b (refuse n 0)
 
+-- The calls are those of a machine with page range R, which its states say too. A state of a machine with another range is refused with 21.
+abbrev pub ranged : PageRange → Bytes → Bool
+ranged R s = eqb (view s .range .below) (R .below) && eqb (view s .range .above) (R .above)
+
 -- "9 .. a form over 4,096 bytes", "20 state not 24,576 bytes, or output not 4,096 when going on", "21 state test fails",
 -- "22 already ended or stopped"
-abbrev pub goWith : {B : Type 0} → (ℕ → ℕ → B) → Module → (form state output : Bytes) → B → B
-goWith refuse m form s o b =
+abbrev pub goWith : {B : Type 0} → (ℕ → ℕ → B) → PageRange → Module → (form state output : Bytes) → B → B
+goWith refuse R m form s o b =
     unless refuse (leb (length form) mostForm) badInput
     (unless refuse (eqb (length s) stateBytes && eqb (length o) outputBytes) badLength
-    (unless refuse (does (decPasses m s)) badState
+    (unless refuse (does (decPasses m s) && ranged R s) badState
     (unless refuse (eqb (view s .status) 0) notRunning b)))
 
 -- ---- going on
@@ -81,12 +86,12 @@ unfoldable pub wentOf : Trace → Went
 wentOf r = cond (eqb (stuckSteps (r .steps)) 0) (went (outcomeOf (view (r .state))) (length (r .steps)) (r .state) (r .output)) noAnswer
 
 -- GOING ON
-unfoldable pub goOf : (file form state output : Bytes) (budget : ℕ) → Went
-goOf f form s o b = onVerdict refused (verdictOf f) (goWith refused (moduleOf f) form s o (wentOf (runOf (moduleOf f) form b s o)))
+unfoldable pub goAt : PageRange → (file form state output : Bytes) (budget : ℕ) → Went
+goAt R f form s o b = onVerdict refused (verdictOf f) (goWith refused R (moduleOf f) form s o (wentOf (runOf (moduleOf f) form b s o)))
 
 -- its trace: a refused call has no steps and changes nothing
-unfoldable pub traceOf : (file form state output : Bytes) (budget : ℕ) → Trace
-traceOf f form s o b = onVerdict (λ n p. noSteps s o) (verdictOf f) (goWith (λ n p. noSteps s o) (moduleOf f) form s o (runOf (moduleOf f) form b s o))
+unfoldable pub traceAt : PageRange → (file form state output : Bytes) (budget : ℕ) → Trace
+traceAt R f form s o b = onVerdict (λ n p. noSteps s o) (verdictOf f) (goWith (λ n p. noSteps s o) R (moduleOf f) form s o (runOf (moduleOf f) form b s o))
 
 -- ---- opening
 
@@ -95,22 +100,22 @@ unfoldable pub firstRegister : Module → Bytes → ℕ → ℕ
 firstRegister m xs i = cond (ltb i (m .function 0 .params)) (number 4 xs (4 * i)) 0
 
 -- "Opening makes one such frame, function 0 at instruction 0 with the arguments; no page is owned and all page bytes are zero"
-unfoldable pub firstState : Module → Bytes → Bytes
-firstState m xs = written (putFrames 1 ∷ putFrame 0 0 (λ i. getD (lowestNumbers (m .function 0 .locals) []) i 0) (firstRegister m xs) ∷ []) (replicate stateBytes 0)
+unfoldable pub firstAt : PageRange → Module → Bytes → Bytes
+firstAt R m xs = written (putRange R ∷ putFrames 1 ∷ putFrame 0 0 (λ i. getD (lowestNumbers (m .function 0 .locals) []) i 0) (firstRegister m xs) ∷ []) (replicate stateBytes 0)
 
 -- OPENING: it looks at no byte of the old state
-unfoldable pub openOf : (file arguments state : Bytes) → Opened
-openOf f xs s =
+unfoldable pub openAt : PageRange → (file arguments state : Bytes) → Opened
+openAt R f xs s =
     onVerdict notOpened (verdictOf f)
     (unless notOpened (eqb (length xs) (4 * moduleOf f .function 0 .params)) badInput
-    (unless notOpened (eqb (length s) stateBytes) badLength (opened (firstState (moduleOf f) xs))))
+    (unless notOpened (eqb (length s) stateBytes) badLength (opened (firstAt R (moduleOf f) xs))))
 
 -- ---- THE STATE TEST
-unfoldable pub testOf : (file state : Bytes) → Tested
-testOf f s =
+unfoldable pub testAt : PageRange → (file state : Bytes) → Tested
+testAt R f s =
     onVerdict failed (verdictOf f)
     (unless failed (eqb (length s) stateBytes) badLength
-    (unless failed (does (decPasses (moduleOf f) s)) badState passed))
+    (unless failed (does (decPasses (moduleOf f) s) && ranged R s) badState passed))
 
 -- ---- the reader of states
 
@@ -124,10 +129,30 @@ objectIn m v a (suc r) =
     cond (ltb 0 s && leb (s * suc j) pageBytes) (record { offset = pagePlace (a / pageBytes) + s * j; size = s }) emptyPart
 
 -- "also when module or state is refused"
-unfoldable pub objectOf : (file state : Bytes) (address : ℕ) → Part
-objectOf f s a =
+unfoldable pub objectAt : PageRange → (file state : Bytes) (address : ℕ) → Part
+objectAt R f s a =
     onVerdict (λ n p. emptyPart) (verdictOf f)
-    (cond (does (decPasses (moduleOf f) s)) (objectIn (moduleOf f) (view s) a (view s .owner (a / pageBytes))) emptyPart)
+    (cond (does (decPasses (moduleOf f) s) && ranged R s) (objectIn (moduleOf f) (view s) a (view s .owner (a / pageBytes))) emptyPart)
+
+-- ---- DOCUMENT 01'S MACHINE: it may own every page but page 0
+
+abbrev pub goOf : (file form state output : Bytes) (budget : ℕ) → Went
+goOf = goAt allPages
+
+abbrev pub traceOf : (file form state output : Bytes) (budget : ℕ) → Trace
+traceOf = traceAt allPages
+
+abbrev pub firstState : Module → Bytes → Bytes
+firstState = firstAt allPages
+
+abbrev pub openOf : (file arguments state : Bytes) → Opened
+openOf = openAt allPages
+
+abbrev pub testOf : (file state : Bytes) → Tested
+testOf = testAt allPages
+
+abbrev pub objectOf : (file state : Bytes) (address : ℕ) → Part
+objectOf = objectAt allPages
 
 -- ---- what a call leaves of the state and of the output that it was lent
 

@@ -16,13 +16,14 @@ use Rattle.rules.specs.Module.{Module, regions}
 use Rattle.rules.specs.Flat.{Placed, at, Has, here, there, flat, size}
 use Rattle.rules.specs.Typing.{_⊢_∶_}
 use Rattle.rules.specs.Decision.{decReg, withPtr}
-use Rattle.rules.specs.State.{View, view, memoryPlace, memoryNumber}
+use Rattle.rules.specs.State.{InRange, View, view, memoryPlace, memoryNumber}
 use Rattle.rules.specs.Heap.{close, Live, decLive, typeOf, heapTyping, Stands, decStands, Value}
 use Rattle.rules.specs.Step.{Effect, fetch, save, takePlace, grantPage, freePlace, stop, stuck, effectOf}
 use Rattle.rules.specs.Footprint.{footprint, Within}
 use Rattle.rules.specs.Writes.{applyState}
 use Rattle.rules.specs.Run.{Step, stateAfter}
 use Rattle.rules.specs.StateTest.{Listed, Passes}
+use Rattle.rules.specs.declared.PageRange.{PageRange}
 
 -- ---- what a load or store touches
 
@@ -134,6 +135,10 @@ Reads e i = Within (footprint e .loads) i
 abbrev pub Changes : Effect → ℕ → Type 0
 Changes e i = Within (footprint e .stores) i ⊎ Within (footprint e .clears) i
 
+-- these bytes lie in pages of the state's range
+abbrev pub InOwnPages : Step → Type 0
+InOwnPages t = (i : ℕ) → i < memoryBytes → Reads (t .effect) i ⊎ Changes (t .effect) i → InRange (view (t .state) .range) (i / pageBytes)
+
 -- ---- document 02, P1: free and used objects
 
 -- how many bytes a place of a page has, by the page's owner: those of its region's objects; a page without owner is one place, free as
@@ -210,9 +215,16 @@ pub record SafeStep (m : Module) (t : Step) : Type 0 where
   pub free : FreeKept m t
   pub used : UsedKept m t
   pub stays : UsedStays m t
+  -- the page bytes that it reads or changes are in pages that the machine may own
+  pub ownPages : InOwnPages t
   -- after it the state passes the state test
   pub after : Passes m (stateAfter m t)
 
 abbrev pub AllSafe : Module → List Step → Type 0
 AllSafe m [] = Unit {0}
 AllSafe m (t ∷ ts) = SafeStep m t × AllSafe m ts
+
+-- each step starts from a state of the machine with page range R
+abbrev pub AllRanged : PageRange → List Step → Type 0
+AllRanged R [] = Unit {0}
+AllRanged R (t ∷ ts) = (view (t .state) .range ≡ R) × AllRanged R ts

@@ -13,7 +13,7 @@ use Rattle.words.specs.Decide.{mapDec, decBoth, decEither, decImp, decNot, decA
 use Rattle.rules.specs.Types.{live, region, width, arg}
 use Rattle.rules.specs.Module.{Module, regions}
 use Rattle.rules.specs.Flat.{Placed, off, type, Layout, flat, size}
-use Rattle.rules.specs.State.{View, view, memoryNumber, framePlace, SpareZero}
+use Rattle.rules.specs.State.{lowPage, endPage, InRange, View, view, memoryNumber, framePlace, SpareZero}
 use Rattle.rules.specs.Heap.{close, Live, decLive, typeOf, heapTyping, Value, decValue}
 use Rattle.rules.specs.Step.{StandsAtCall, decStandsAtCall}
 
@@ -65,8 +65,9 @@ PageOk m v n p (suc r) =
     (j : ℕ) → j < pageBytes → size m (typeOf m (v .fn) (v .map) n r) * suc j ≤ pageBytes
     → Each (PrimitiveOk m v n p (flat m (typeOf m (v .fn) (v .map) n r)) j) (flat m (typeOf m (v .fn) (v .map) n r) .prims)
 
+-- owned pages are in the state's range: page 0 is in no range, and all others are in that of document 01's machine
 pub record ContentsOk (m : Module) (v : View) (n : ℕ) : Type 0 where
-  pub page0 : v .owner 0 ≡ 0
+  pub inRange : (p : ℕ) → p < pages → 0 < v .owner p → InRange (v .range) p
   pub owners : (p : ℕ) → p < pages → 0 < v .owner p → Live m (v .fn) (v .map) n (v .owner p)
   pub marks : (p : ℕ) → p < pages → (j : ℕ) → j < pageBytes → v .owner p ≡ 0 → v .mark p j ≡ 0
   pub registers : (k : ℕ) → k < n → (a : ℕ) → a < m .function (v .fn k) .registers
@@ -89,7 +90,8 @@ pub record SpareOk (m : Module) (v : View) (n : ℕ) : Type 0 where
   pub maps : (k : ℕ) → k < n → (i : ℕ) → i < mostRegions → regions (m .function (v .fn k)) ≤ i → v .map k i ≡ 0
   pub marks : (p : ℕ) → p < pages → MarksEnd m v n p (v .owner p)
 
--- ---- THE STATE TEST, of bytes, for module m
+-- ---- THE STATE TEST, of bytes, for module m and a machine with the page range that these say. That it is the machine which is called is
+-- tested beside it (`ranged`, Host).
 pub record Passes (m : Module) (s : Bytes) : Type 0 where
   pub size : length s ≡ stateBytes
   pub status : StatusOk (view s)
@@ -147,9 +149,9 @@ decPage m v n p (suc r) =
 
 unfoldable pub decContents : (m : Module) (v : View) (n : ℕ) → Dec (ContentsOk m v n)
 decContents m v n = mapDec
-    (λ h. record { page0 = h .0 .0; owners = h .0 .1 .0; marks = h .0 .1 .1; registers = h .1 .0; primitives = h .1 .1 })
-    (λ c. ((c .page0, (c .owners, c .marks)), (c .registers, c .primitives)))
-    (decBoth (decBoth (ℕ-discrete (v .owner 0) 0) (decBoth (decAll (λ p. decImp (decLt 0 (v .owner p)) (decLive m (v .fn) (v .map) n (v .owner p))) pages)
+    (λ h. record { inRange = h .0 .0; owners = h .0 .1 .0; marks = h .0 .1 .1; registers = h .1 .0; primitives = h .1 .1 })
+    (λ c. ((c .inRange, (c .owners, c .marks)), (c .registers, c .primitives)))
+    (decBoth (decBoth (decAll (λ p. decImp (decLt 0 (v .owner p)) (decBoth (decLe (lowPage (v .range)) p) (decLt p (endPage (v .range))))) pages) (decBoth (decAll (λ p. decImp (decLt 0 (v .owner p)) (decLive m (v .fn) (v .map) n (v .owner p))) pages)
     (decAll (λ p. decAll (λ j. decImp (ℕ-discrete (v .owner p) 0) (ℕ-discrete (v .mark p j) 0)) pageBytes) pages)))
     (decBoth (decAll (λ k. decAll (λ a. decValue m (heapTyping m v n) (close (v .map k) (m .function (v .fn k) .registerType a)) (v .reg k a)) (m .function (v .fn k) .registers)) n)
     (decAll (λ p. decPage m v n p (v .owner p)) pages)))

@@ -24,6 +24,12 @@ pub struct Record {
     pub d: u32,
 }
 
+// The pages that a machine may own: of pages 1 to 63 all but so many at the low end and so many at the high end.
+pub struct PageRange {
+    pub below: u8,
+    pub above: u8,
+}
+
 // The instructions by their kinds: "the ranges above" of document 01, by which typing rule and step are chosen.
 pub enum Group {
     Arithmetic,

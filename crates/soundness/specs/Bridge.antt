@@ -45,7 +45,7 @@ module _ (m : Module) (ok : ModuleOk m) (v : View) (n : ℕ) where
   contents-good : FramesOk m (v .fn) (v .pc) (v .map) n → ContentsOk m v n → Good m v n
   contents-good s c = record {
     frames = s;
-    page0 = c .page0;
+    inRange = c .inRange;
     owners = c .owners;
     marks = c .marks;
     registers = c .registers;
@@ -60,7 +60,7 @@ module _ (m : Module) (ok : ModuleOk m) (v : View) (n : ℕ) where
 
   good-contents : Good m v n → ContentsOk m v n
   good-contents g = record {
-    page0 = g .page0;
+    inRange = g .inRange;
     owners = g .owners;
     marks = g .marks;
     registers = g .registers;

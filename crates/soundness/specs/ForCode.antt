@@ -20,23 +20,24 @@ use Rattle.rules.specs.Module.{Module}
 use Rattle.rules.specs.Flat.{size}
 use Rattle.rules.specs.Decode.{moduleOf}
 use Rattle.rules.specs.Verdict.{verdictOf, IsAccepted}
-use Rattle.rules.specs.State.{View, view, memoryPlace, pagePlace}
+use Rattle.rules.specs.State.{View, view, memoryPlace, pagePlace, allPages}
 use Rattle.rules.specs.Heap.{typeOf}
 use Rattle.rules.specs.Step.{stuck, effectOf}
 use Rattle.rules.specs.Run.{Step, stepOf, stateAfter, outputAfter, Trace, noSteps, runOf, stuckSteps}
 use Rattle.rules.specs.StateTest.{Passes, decPasses}
-use Rattle.rules.specs.Host.{Outcome, ended, stopped, running, Went, refused, went, noAnswer, Opened, notOpened, opened, Part, emptyPart, onVerdict, outcomeOf, wentOf, goOf, firstState, openOf, objectIn, objectOf}
+use Rattle.rules.specs.Host.{Outcome, ended, stopped, running, Went, refused, went, noAnswer, Opened, notOpened, opened, Part, emptyPart, onVerdict, outcomeOf, wentOf, goAt, firstAt, openAt, objectIn, objectAt, ranged}
 use Rattle.rules.specs.SafeStep.{SafeStep}
 use Rattle.rules.specs.Cases.{BudgetZero}
+use Rattle.rules.specs.declared.PageRange.{PageRange}
 use Rattle.rules.specs.declared.Verdict.{Verdict}
 use Rattle.rules.specs.declared.Verdict.the-variants.{Accepted, Refused}
 use Rattle.state.specs.Effects.{Bounded}
 use Rattle.state.specs.Reads.{owner-past}
 use Rattle.soundness.specs.Facts.{ModuleOk, accepted-ok}
 use Rattle.soundness.specs.Bridge.{passes-test, test-passes}
-use Rattle.soundness.specs.Opening.{opened-test, opened-whole, opened-running}
+use Rattle.soundness.specs.Opening.{opened-test, opened-whole, opened-range, opened-running}
 use Rattle.soundness.specs.Sound.{topFrame, Sound, ready, stepped, run-sound}
-use Rattle.soundness.specs.Demand3.{Paired, refusal, ran, go-paired, went-is, verdict-accepted, opened-first, passes-does}
+use Rattle.soundness.specs.Demand3.{range-ranged, Paired, refusal, ran, go-paired, went-is, verdict-accepted, opened-first, passes-does}
 
 -- ---- runs
 
@@ -127,36 +128,37 @@ pair-parts : (s o : Bytes) (r : Trace) (a : Outcome) (n : ℕ) (t u : Bytes) (w 
 pair-parts s o r a n t u w x (refusal i p) e = let z : _≡_ {A = ℕ} 0 1 = cc in absurd (omega arith)
 pair-parts s o r a n t u w x ran e = went-parts r a n t u e
 
-pub running-whole : (f form s o : Bytes) (b n : ℕ) (t u : Bytes) → goOf f form s o b ≡ went running n t u → n ≡ b
+pub running-whole : (R : PageRange) (f form s o : Bytes) (b n : ℕ) (t u : Bytes) → goAt R f form s o b ≡ went running n t u → n ≡ b
 unfolding outcomeOf
-running-whole f form s o b n t u e =
+running-whole R f form s o b n t u e =
     let r : Trace = runOf (moduleOf f) form b s o in
-    let p : Parts r running n t u = pair-parts s o r running n t u _ _ (go-paired f form s o b) e in
+    let p : Parts r running n t u = pair-parts s o r running n t u _ _ (go-paired R f form s o b) e in
     let z : view (r .state) .status ≡ 0 =
     eqb-true (view (r .state) .status) 0 (running-is (eqb (view (r .state) .status) 0) (eqb (view (r .state) .status) 1) (view (r .state) .result) (view (r .state) .status) (p .outcome)) in
     sym (p .steps) ∙ run-length (moduleOf f) form b s o z
 
 -- ---- the answer of a call that is not refused
 
-pub go-went : (f form s o : Bytes) (b : ℕ) → IsAccepted (verdictOf f) → AllBytes form → length form ≤ mostForm → AllBytes s → Passes (moduleOf f) s → view s .status ≡ 0 → length o ≡ outputBytes
-    → goOf f form s o b ≡ went (outcomeOf (view (runOf (moduleOf f) form b s o .state))) (length (runOf (moduleOf f) form b s o .steps)) (runOf (moduleOf f) form b s o .state) (runOf (moduleOf f) form b s o .output)
-unfolding goOf
-go-went f form s o b acc h few l p z k =
+pub go-went : (R : PageRange) (f form s o : Bytes) (b : ℕ) → IsAccepted (verdictOf f) → AllBytes form → length form ≤ mostForm → AllBytes s → Passes (moduleOf f) s → view s .range ≡ R → view s .status ≡ 0 → length o ≡ outputBytes
+    → goAt R f form s o b ≡ went (outcomeOf (view (runOf (moduleOf f) form b s o .state))) (length (runOf (moduleOf f) form b s o .steps)) (runOf (moduleOf f) form b s o .state) (runOf (moduleOf f) form b s o .output)
+unfolding goAt
+go-went R f form s o b acc h few l p r z k =
     verdict-accepted refused (verdictOf f) _ acc
     ∙ cond-le _ (refused badInput 0) few
     ∙ cond-yes _ (refused badLength 0) (both-of (eq-eqb (length s) stateBytes (p .size)) (eq-eqb (length o) outputBytes k))
-    ∙ cond-yes _ (refused badState 0) (passes-does (moduleOf f) s p)
+    ∙ cond-yes _ (refused badState 0) (both-of (passes-does (moduleOf f) s p) (range-ranged R s r))
     ∙ cond-eq _ (refused notRunning 0) z
     ∙ went-is (runOf (moduleOf f) form b s o) (accepted-moves f form b s o acc h l p)
 
--- an opened state is steady, and runs
-pub opened-steady : (f xs old t : Bytes) → IsAccepted (verdictOf f) → AllBytes xs → openOf f xs old ≡ opened t → Steady (moduleOf f) t × (view t .status ≡ 0)
-opened-steady f xs old t acc z e =
+-- an opened state is steady, runs and has the machine's range
+pub opened-steady : (R : PageRange) → R .below < 256 → R .above < 256 → (f xs old t : Bytes) → IsAccepted (verdictOf f) → AllBytes xs → openAt R f xs old ≡ opened t
+    → Steady (moduleOf f) t × (view t .status ≡ 0) × (view t .range ≡ R)
+opened-steady R a b f xs old t acc z e =
     let ok : ModuleOk (moduleOf f) = accepted-ok f acc in
-    let whole = opened-whole (moduleOf f) ok xs z in
-    let s : Bytes = firstState (moduleOf f) xs in
-    subst (λ (y : Bytes). Steady (moduleOf f) y × (view y .status ≡ 0)) (opened-first f acc xs old t e)
-    (record { bytes = whole .bytes; passes = test-passes (moduleOf f) ok s (whole .size) (whole .spare) (opened-test (moduleOf f) ok xs z) }, opened-running (moduleOf f) ok xs z)
+    let whole = opened-whole (moduleOf f) ok R xs z a b in
+    let s : Bytes = firstAt R (moduleOf f) xs in
+    subst (λ (y : Bytes). Steady (moduleOf f) y × (view y .status ≡ 0) × (view y .range ≡ R)) (opened-first R f acc xs old t e)
+    (record { bytes = whole .bytes; passes = test-passes (moduleOf f) ok s (whole .size) (whole .spare) (opened-test (moduleOf f) ok R xs z) }, opened-running (moduleOf f) ok R xs z, opened-range (moduleOf f) ok R xs z)
 
 -- a file that opens is accepted
 opened-accepted : (v : Verdict) (b : Opened) (t : Bytes) → onVerdict notOpened v b ≡ opened t → IsAccepted v
@@ -165,11 +167,11 @@ opened-accepted (Refused n p) b t e = let z : _≡_ {A = ℕ} 0 1 = cc in absurd
 
 -- C10
 pub budget-zero : BudgetZero
-unfolding outcomeOf runOf openOf
+unfolding outcomeOf runOf openAt
 budget-zero f xs old form o t z e h few k =
     let acc : IsAccepted (verdictOf f) = opened-accepted (verdictOf f) _ t e in
-    let s = opened-steady f xs old t acc z e in
-    go-went f form t o 0 acc h few (s .0 .bytes) (s .0 .passes) (s .1) k
+    let s = opened-steady allPages (omega arith) (omega arith) f xs old t acc z e in
+    go-went allPages f form t o 0 acc h few (s .0 .bytes) (s .0 .passes) (s .2) (s .1) k
     ∙ ap (λ (a : Outcome). went a 0 t o) (cond-eq running (cond (eqb (view t .status) 1) (ended (view t .result)) (stopped (view t .status))) (s .1))
 
 -- ---- the reader
@@ -208,9 +210,9 @@ none-outside m v a zero e l = l
 none-outside m v a (suc r) e l = absurd (omega arith)
 
 -- for every file, state and address, refused ones included: a part that is not empty
-pub object-inside : (f s : Bytes) (a : ℕ) → 0 < objectOf f s a .size → Inside a (objectOf f s a)
-unfolding objectOf view
-object-inside f s a = go (verdictOf f) (does (decPasses (moduleOf f) s)) (decLt a memoryBytes)
+pub object-inside : (R : PageRange) (f s : Bytes) (a : ℕ) → 0 < objectAt R f s a .size → Inside a (objectAt R f s a)
+unfolding objectAt view
+object-inside R f s a = go (verdictOf f) (does (decPasses (moduleOf f) s) && ranged R s) (decLt a memoryBytes)
   where
     made : Verdict → Bool → Part
     made v b = onVerdict (λ n p. emptyPart) v (cond b (objectIn (moduleOf f) (view s) a (view s .owner (a / pageBytes))) emptyPart)

@@ -17,7 +17,7 @@ use Rattle.rules.specs.Types.{variable, live, Variable, region, Tree, sub, widt
 use Rattle.rules.specs.Module.{Module, Function, regions, argument, call}
 use Rattle.rules.specs.Flat.{Has, flat}
 use Rattle.rules.specs.Typing.{_⊢_∶_, Typed, t-call}
-use Rattle.rules.specs.State.{View, memoryNumber}
+use Rattle.rules.specs.State.{InRange, View, memoryNumber}
 use Rattle.rules.specs.Heap.{close, Local, Live, localList, liveList, look, typeOf, heapTyping, Value}
 use Rattle.rules.specs.StateTest.{Chained, FramesOk}
 use Rattle.state.specs.Regions.{length-localList}
@@ -31,7 +31,7 @@ use Rattle.soundness.specs.Facts.{ModuleOk}
 -- The state test for a state with n frames, but for the status and the spare bytes.
 pub record Good (m : Module) (v : View) (n : ℕ) : Type 0 where
   pub frames : FramesOk m (v .fn) (v .pc) (v .map) n
-  pub page0 : v .owner 0 ≡ 0
+  pub inRange : (p : ℕ) → p < pages → 0 < v .owner p → InRange (v .range) p
   pub owners : (p : ℕ) → p < pages → 0 < v .owner p → Live m (v .fn) (v .map) n (v .owner p)
   pub marks : (p : ℕ) → p < pages → (j : ℕ) → j < pageBytes → v .owner p ≡ 0 → v .mark p j ≡ 0
   pub registers : (k : ℕ) → k < n → (a : ℕ) → a < m .function (v .fn k) .registers

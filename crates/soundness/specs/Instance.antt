@@ -13,7 +13,7 @@ use Rattle.rules.specs.Limits.{outputBytes, stateBytes}
 use Rattle.rules.specs.Verdict.{verdictOf, IsAccepted}
 use Rattle.rules.specs.Step.{Effect, assign, fetch, save, takePlace, grantPage, freePlace, goTo, emit, push, pop, finish, stop, stuck}
 use Rattle.rules.specs.Run.{Step, Trace}
-use Rattle.rules.specs.Host.{Outcome, ended, went, notOpened, opened, openOf, goOf}
+use Rattle.rules.specs.Host.{Outcome, ended, went, notOpened, opened, openOf, openAt, goOf}
 use Rattle.rules.specs.SafeStep.{decInPrimitives, decNames, decInValue, strayFrom, strayBytes}
 use Rattle.rules.specs.Calls.{granted, handedBack, Call, Lent, fromOpening}
 use Rattle.rules.specs.Claim.{Claim}
@@ -24,7 +24,7 @@ use Rattle.words.specs.Decide.{decBoth, decEither, decImp, decNot, decAll, decA
 use Rattle.rules.specs.Types.{decRegion, sub, decTree, decUses, decPrimitive}
 use Rattle.rules.specs.Flat.{decPlaced, decPrims, beside, copiesOf, copies, subLayout, flatWith, fieldsFrom, fieldsWith, layouts, flat, decRun, positionAt, decSame, structFlat}
 use Rattle.rules.specs.Decision.{asInt, asPtr, asArr, decReg, withInt, withPtr, anInt, aPtr, decConstant, decCopy, decOperate, decZero, decSigned, decAddress, decCheck, decField, decIndex, decThrough, decLoad, decStore, decWhole, decNew, decFree, decInput, decOutput, decJump, decBranch, decCall, decReturn, decTyped}
-use Rattle.rules.specs.State.{frameFunction, frameInstruction, frameRegister, frameMap, pageOwner, pageMark, memoryByte, view, memoryNumber, written, wordsOf, frameOf}
+use Rattle.rules.specs.State.{frameFunction, frameInstruction, frameRegister, frameMap, pageOwner, pageMark, memoryByte, view, memoryNumber, written, wordsOf, frameOf, allPages}
 use Rattle.rules.specs.Heap.{decLocal, decLive, localList, liveList, look, typeOf, decStands, decValue}
 use Rattle.rules.specs.Arithmetic.{operationOf, flag, valueIf, leftBy, rightBy, magnitude, nearestOf, signedBy, nearestBy, biased, operated, signExtended}
 use Rattle.rules.specs.Step.{need, onInt, onPtr, onArr, decIsCall, decStandsAtCall, onCall, isIn, lowest, lowestNumbers, decHome, hasRoom, roomPage, unusedPlace, hasPlace, unownedPage, allocate, notZero, computed, decHeld, calleeMap, calleeRegisters, returned, exec, effectAt, effectOf, closedPages}
@@ -34,7 +34,7 @@ use Rattle.rules.specs.WellTyped.{decCounts, decTerm, decStruct, scopeOf, decFu
 use Rattle.rules.specs.Decode.{regionBytes, treeOf, treesOf, fieldsOf, places, codePlaces, callOf, arithmeticOf, memoryOf, controlOf, byGroup, instructionOf, codeOf, functionOf, moduleOf, startOf, instructionAt}
 use Rattle.rules.specs.File.{records, recordStart, recordOf, groupOf, checkSum, blockTest}
 use Rattle.rules.specs.Walk.{toCode, toRegisters, opened as openedFunction, done, toFunction, toName, step, next, nextScan, scan, whole}
-use Rattle.rules.specs.Host.{outcomeOf, wentOf, firstRegister, firstState, objectIn}
+use Rattle.rules.specs.Host.{outcomeOf, wentOf, firstRegister, firstState, objectIn, firstAt}
 use native.Mathlib.Decide.{ℕ-discrete, decLt, decLe}
 use Rattle.rules.specs.Operands.{operandTable, classesOf, operandFits}
 use Rattle.rules.specs.Quick.{along, quickRecords, quickOf}
@@ -89,11 +89,11 @@ pub start : Bytes
 start = firstState (moduleOf example) []
 
 no-parameters : moduleOf example .function 0 .params ≡ 0
-unfolding example recordsBytes fileOf file bit withBit number little splice listFrom firstFrom first decBoth decEither decImp decNot decAll decAny decThe mapDec decList decEach decRegion sub decTree decPlaced decPrims beside copiesOf copies subLayout flatWith fieldsFrom fieldsWith layouts flat decRun positionAt decSame asInt asPtr asArr decReg withInt withPtr anInt aPtr decConstant decCopy decOperate decZero decSigned decAddress decCheck decField decIndex decThrough decLoad decStore decWhole decNew decFree decInput decOutput decJump decBranch decCall decReturn decTyped frameFunction frameInstruction frameRegister frameMap pageOwner pageMark memoryByte view memoryNumber written wordsOf frameOf decLocal decLive localList liveList look typeOf decStands decValue operationOf flag valueIf leftBy rightBy magnitude nearestOf signedBy nearestBy biased operated signExtended need onInt onPtr onArr decIsCall decStandsAtCall onCall isIn lowest lowestNumbers decHome hasRoom roomPage unusedPlace hasPlace unownedPage allocate notZero computed decHeld calleeMap calleeRegisters returned exec effectAt effectOf closedPages closing leaving stateWrites outputWrites applyState applyOutput runOf stuckSteps decCounts decTerm decStruct structFlat decUses regionBytes treeOf treesOf fieldsOf places codePlaces callOf arithmeticOf memoryOf controlOf byGroup instructionOf codeOf functionOf moduleOf records recordStart recordOf groupOf toCode toRegisters openedFunction done toFunction toName step next nextScan scan whole outcomeOf wentOf firstRegister firstState objectIn ℕ-discrete decLt decLe
+unfolding example recordsBytes fileOf file bit withBit number little splice listFrom firstFrom first decBoth decEither decImp decNot decAll decAny decThe mapDec decList decEach decRegion sub decTree decPlaced decPrims beside copiesOf copies subLayout flatWith fieldsFrom fieldsWith layouts flat decRun positionAt decSame asInt asPtr asArr decReg withInt withPtr anInt aPtr decConstant decCopy decOperate decZero decSigned decAddress decCheck decField decIndex decThrough decLoad decStore decWhole decNew decFree decInput decOutput decJump decBranch decCall decReturn decTyped frameFunction frameInstruction frameRegister frameMap pageOwner pageMark memoryByte view memoryNumber written wordsOf frameOf decLocal decLive localList liveList look typeOf decStands decValue operationOf flag valueIf leftBy rightBy magnitude nearestOf signedBy nearestBy biased operated signExtended need onInt onPtr onArr decIsCall decStandsAtCall onCall isIn lowest lowestNumbers decHome hasRoom roomPage unusedPlace hasPlace unownedPage allocate notZero computed decHeld calleeMap calleeRegisters returned exec effectAt effectOf closedPages closing leaving stateWrites outputWrites applyState applyOutput runOf stuckSteps decCounts decTerm decStruct structFlat decUses regionBytes treeOf treesOf fieldsOf places codePlaces callOf arithmeticOf memoryOf controlOf byGroup instructionOf codeOf functionOf moduleOf records recordStart recordOf groupOf toCode toRegisters openedFunction done toFunction toName step next nextScan scan whole outcomeOf wentOf firstRegister firstAt objectIn ℕ-discrete decLt decLe
 no-parameters = refl
 
 pub opened-example : openOf example [] (replicate stateBytes 0) ≡ opened start
-unfolding openOf start
+unfolding openAt start
 opened-example =
     verdict-accepted notOpened (verdictOf example) _ accepted-example
     ∙ cond-eq _ (notOpened 9 0) {m = 0} {n = 4 * moduleOf example .function 0 .params} (ap (λ (n : ℕ). 4 * n) (sym no-parameters))
@@ -111,25 +111,25 @@ ran = runOf (moduleOf example) [] 1000 start output
 -- page 1 granted to region 0; 42; stored at 256; function 1 with region 0 and the pointer; loaded; returned into register 2; freed;
 -- handed out again, 4 bytes; loaded; ended, with 0
 pub ran-effects : effects (ran .steps) ≡ (4 ∷ 1 ∷ 0 ∷ 0 ∷ []) ∷ (0 ∷ 1 ∷ 42 ∷ []) ∷ (2 ∷ 0 ∷ 256 ∷ 4 ∷ 42 ∷ []) ∷ (8 ∷ 1 ∷ 0 ∷ 256 ∷ []) ∷ (1 ∷ 0 ∷ 1 ∷ 256 ∷ 4 ∷ []) ∷ (9 ∷ 0 ∷ 2 ∷ 42 ∷ []) ∷ (5 ∷ 1 ∷ 0 ∷ []) ∷ (3 ∷ 1 ∷ 0 ∷ 4 ∷ 0 ∷ []) ∷ (1 ∷ 0 ∷ 1 ∷ 256 ∷ 4 ∷ []) ∷ (10 ∷ 0 ∷ []) ∷ []
-unfolding start output ran shown effects example recordsBytes fileOf file bit withBit number little splice listFrom firstFrom first decBoth decEither decImp decNot decAll decAny decThe mapDec decList decEach decRegion sub decTree decPlaced decPrims beside copiesOf copies subLayout flatWith fieldsFrom fieldsWith layouts flat decRun positionAt decSame asInt asPtr asArr decReg withInt withPtr anInt aPtr decConstant decCopy decOperate decZero decSigned decAddress decCheck decField decIndex decThrough decLoad decStore decWhole decNew decFree decInput decOutput decJump decBranch decCall decReturn decTyped frameFunction frameInstruction frameRegister frameMap pageOwner pageMark memoryByte view memoryNumber written wordsOf frameOf decLocal decLive localList liveList look typeOf decStands decValue operationOf flag valueIf leftBy rightBy magnitude nearestOf signedBy nearestBy biased operated signExtended need onInt onPtr onArr decIsCall decStandsAtCall onCall isIn lowest lowestNumbers decHome hasRoom roomPage unusedPlace hasPlace unownedPage allocate notZero computed decHeld calleeMap calleeRegisters returned exec effectAt effectOf closedPages closing leaving stateWrites outputWrites applyState applyOutput runOf stuckSteps decCounts decTerm decStruct structFlat decUses regionBytes treeOf treesOf fieldsOf places codePlaces callOf arithmeticOf memoryOf controlOf byGroup instructionOf codeOf functionOf moduleOf records recordStart recordOf groupOf toCode toRegisters openedFunction done toFunction toName step next nextScan scan whole outcomeOf wentOf firstRegister firstState objectIn ℕ-discrete decLt decLe
+unfolding start output ran shown effects example recordsBytes fileOf file bit withBit number little splice listFrom firstFrom first decBoth decEither decImp decNot decAll decAny decThe mapDec decList decEach decRegion sub decTree decPlaced decPrims beside copiesOf copies subLayout flatWith fieldsFrom fieldsWith layouts flat decRun positionAt decSame asInt asPtr asArr decReg withInt withPtr anInt aPtr decConstant decCopy decOperate decZero decSigned decAddress decCheck decField decIndex decThrough decLoad decStore decWhole decNew decFree decInput decOutput decJump decBranch decCall decReturn decTyped frameFunction frameInstruction frameRegister frameMap pageOwner pageMark memoryByte view memoryNumber written wordsOf frameOf decLocal decLive localList liveList look typeOf decStands decValue operationOf flag valueIf leftBy rightBy magnitude nearestOf signedBy nearestBy biased operated signExtended need onInt onPtr onArr decIsCall decStandsAtCall onCall isIn lowest lowestNumbers decHome hasRoom roomPage unusedPlace hasPlace unownedPage allocate notZero computed decHeld calleeMap calleeRegisters returned exec effectAt effectOf closedPages closing leaving stateWrites outputWrites applyState applyOutput runOf stuckSteps decCounts decTerm decStruct structFlat decUses regionBytes treeOf treesOf fieldsOf places codePlaces callOf arithmeticOf memoryOf controlOf byGroup instructionOf codeOf functionOf moduleOf records recordStart recordOf groupOf toCode toRegisters openedFunction done toFunction toName step next nextScan scan whole outcomeOf wentOf firstRegister firstAt objectIn ℕ-discrete decLt decLe
 ran-effects = refl
 
 ran-outcome : outcomeOf (view (ran .state)) ≡ ended 0
-unfolding start output ran example recordsBytes fileOf file bit withBit number little splice listFrom firstFrom first decBoth decEither decImp decNot decAll decAny decThe mapDec decList decEach decRegion sub decTree decPlaced decPrims beside copiesOf copies subLayout flatWith fieldsFrom fieldsWith layouts flat decRun positionAt decSame asInt asPtr asArr decReg withInt withPtr anInt aPtr decConstant decCopy decOperate decZero decSigned decAddress decCheck decField decIndex decThrough decLoad decStore decWhole decNew decFree decInput decOutput decJump decBranch decCall decReturn decTyped frameFunction frameInstruction frameRegister frameMap pageOwner pageMark memoryByte view memoryNumber written wordsOf frameOf decLocal decLive localList liveList look typeOf decStands decValue operationOf flag valueIf leftBy rightBy magnitude nearestOf signedBy nearestBy biased operated signExtended need onInt onPtr onArr decIsCall decStandsAtCall onCall isIn lowest lowestNumbers decHome hasRoom roomPage unusedPlace hasPlace unownedPage allocate notZero computed decHeld calleeMap calleeRegisters returned exec effectAt effectOf closedPages closing leaving stateWrites outputWrites applyState applyOutput runOf stuckSteps decCounts decTerm decStruct structFlat decUses regionBytes treeOf treesOf fieldsOf places codePlaces callOf arithmeticOf memoryOf controlOf byGroup instructionOf codeOf functionOf moduleOf records recordStart recordOf groupOf toCode toRegisters openedFunction done toFunction toName step next nextScan scan whole outcomeOf wentOf firstRegister firstState objectIn ℕ-discrete decLt decLe
+unfolding start output ran example recordsBytes fileOf file bit withBit number little splice listFrom firstFrom first decBoth decEither decImp decNot decAll decAny decThe mapDec decList decEach decRegion sub decTree decPlaced decPrims beside copiesOf copies subLayout flatWith fieldsFrom fieldsWith layouts flat decRun positionAt decSame asInt asPtr asArr decReg withInt withPtr anInt aPtr decConstant decCopy decOperate decZero decSigned decAddress decCheck decField decIndex decThrough decLoad decStore decWhole decNew decFree decInput decOutput decJump decBranch decCall decReturn decTyped frameFunction frameInstruction frameRegister frameMap pageOwner pageMark memoryByte view memoryNumber written wordsOf frameOf decLocal decLive localList liveList look typeOf decStands decValue operationOf flag valueIf leftBy rightBy magnitude nearestOf signedBy nearestBy biased operated signExtended need onInt onPtr onArr decIsCall decStandsAtCall onCall isIn lowest lowestNumbers decHome hasRoom roomPage unusedPlace hasPlace unownedPage allocate notZero computed decHeld calleeMap calleeRegisters returned exec effectAt effectOf closedPages closing leaving stateWrites outputWrites applyState applyOutput runOf stuckSteps decCounts decTerm decStruct structFlat decUses regionBytes treeOf treesOf fieldsOf places codePlaces callOf arithmeticOf memoryOf controlOf byGroup instructionOf codeOf functionOf moduleOf records recordStart recordOf groupOf toCode toRegisters openedFunction done toFunction toName step next nextScan scan whole outcomeOf wentOf firstRegister firstAt objectIn ℕ-discrete decLt decLe
 ran-outcome = refl
 
 ran-steps : length (ran .steps) ≡ 10
-unfolding start output ran example recordsBytes fileOf file bit withBit number little splice listFrom firstFrom first decBoth decEither decImp decNot decAll decAny decThe mapDec decList decEach decRegion sub decTree decPlaced decPrims beside copiesOf copies subLayout flatWith fieldsFrom fieldsWith layouts flat decRun positionAt decSame asInt asPtr asArr decReg withInt withPtr anInt aPtr decConstant decCopy decOperate decZero decSigned decAddress decCheck decField decIndex decThrough decLoad decStore decWhole decNew decFree decInput decOutput decJump decBranch decCall decReturn decTyped frameFunction frameInstruction frameRegister frameMap pageOwner pageMark memoryByte view memoryNumber written wordsOf frameOf decLocal decLive localList liveList look typeOf decStands decValue operationOf flag valueIf leftBy rightBy magnitude nearestOf signedBy nearestBy biased operated signExtended need onInt onPtr onArr decIsCall decStandsAtCall onCall isIn lowest lowestNumbers decHome hasRoom roomPage unusedPlace hasPlace unownedPage allocate notZero computed decHeld calleeMap calleeRegisters returned exec effectAt effectOf closedPages closing leaving stateWrites outputWrites applyState applyOutput runOf stuckSteps decCounts decTerm decStruct structFlat decUses regionBytes treeOf treesOf fieldsOf places codePlaces callOf arithmeticOf memoryOf controlOf byGroup instructionOf codeOf functionOf moduleOf records recordStart recordOf groupOf toCode toRegisters openedFunction done toFunction toName step next nextScan scan whole outcomeOf wentOf firstRegister firstState objectIn ℕ-discrete decLt decLe
+unfolding start output ran example recordsBytes fileOf file bit withBit number little splice listFrom firstFrom first decBoth decEither decImp decNot decAll decAny decThe mapDec decList decEach decRegion sub decTree decPlaced decPrims beside copiesOf copies subLayout flatWith fieldsFrom fieldsWith layouts flat decRun positionAt decSame asInt asPtr asArr decReg withInt withPtr anInt aPtr decConstant decCopy decOperate decZero decSigned decAddress decCheck decField decIndex decThrough decLoad decStore decWhole decNew decFree decInput decOutput decJump decBranch decCall decReturn decTyped frameFunction frameInstruction frameRegister frameMap pageOwner pageMark memoryByte view memoryNumber written wordsOf frameOf decLocal decLive localList liveList look typeOf decStands decValue operationOf flag valueIf leftBy rightBy magnitude nearestOf signedBy nearestBy biased operated signExtended need onInt onPtr onArr decIsCall decStandsAtCall onCall isIn lowest lowestNumbers decHome hasRoom roomPage unusedPlace hasPlace unownedPage allocate notZero computed decHeld calleeMap calleeRegisters returned exec effectAt effectOf closedPages closing leaving stateWrites outputWrites applyState applyOutput runOf stuckSteps decCounts decTerm decStruct structFlat decUses regionBytes treeOf treesOf fieldsOf places codePlaces callOf arithmeticOf memoryOf controlOf byGroup instructionOf codeOf functionOf moduleOf records recordStart recordOf groupOf toCode toRegisters openedFunction done toFunction toName step next nextScan scan whole outcomeOf wentOf firstRegister firstAt objectIn ℕ-discrete decLt decLe
 ran-steps = refl
 
 -- one page granted and one handed back
 pub ran-pages : (granted (ran .steps) ≡ 1) × (handedBack (moduleOf example) (ran .steps) ≡ 1)
-unfolding start output ran granted handedBack example recordsBytes fileOf file bit withBit number little splice listFrom firstFrom first decBoth decEither decImp decNot decAll decAny decThe mapDec decList decEach decRegion sub decTree decPlaced decPrims beside copiesOf copies subLayout flatWith fieldsFrom fieldsWith layouts flat decRun positionAt decSame asInt asPtr asArr decReg withInt withPtr anInt aPtr decConstant decCopy decOperate decZero decSigned decAddress decCheck decField decIndex decThrough decLoad decStore decWhole decNew decFree decInput decOutput decJump decBranch decCall decReturn decTyped frameFunction frameInstruction frameRegister frameMap pageOwner pageMark memoryByte view memoryNumber written wordsOf frameOf decLocal decLive localList liveList look typeOf decStands decValue operationOf flag valueIf leftBy rightBy magnitude nearestOf signedBy nearestBy biased operated signExtended need onInt onPtr onArr decIsCall decStandsAtCall onCall isIn lowest lowestNumbers decHome hasRoom roomPage unusedPlace hasPlace unownedPage allocate notZero computed decHeld calleeMap calleeRegisters returned exec effectAt effectOf closedPages closing leaving stateWrites outputWrites applyState applyOutput runOf stuckSteps decCounts decTerm decStruct structFlat decUses regionBytes treeOf treesOf fieldsOf places codePlaces callOf arithmeticOf memoryOf controlOf byGroup instructionOf codeOf functionOf moduleOf records recordStart recordOf groupOf toCode toRegisters openedFunction done toFunction toName step next nextScan scan whole outcomeOf wentOf firstRegister firstState objectIn ℕ-discrete decLt decLe
+unfolding start output ran granted handedBack example recordsBytes fileOf file bit withBit number little splice listFrom firstFrom first decBoth decEither decImp decNot decAll decAny decThe mapDec decList decEach decRegion sub decTree decPlaced decPrims beside copiesOf copies subLayout flatWith fieldsFrom fieldsWith layouts flat decRun positionAt decSame asInt asPtr asArr decReg withInt withPtr anInt aPtr decConstant decCopy decOperate decZero decSigned decAddress decCheck decField decIndex decThrough decLoad decStore decWhole decNew decFree decInput decOutput decJump decBranch decCall decReturn decTyped frameFunction frameInstruction frameRegister frameMap pageOwner pageMark memoryByte view memoryNumber written wordsOf frameOf decLocal decLive localList liveList look typeOf decStands decValue operationOf flag valueIf leftBy rightBy magnitude nearestOf signedBy nearestBy biased operated signExtended need onInt onPtr onArr decIsCall decStandsAtCall onCall isIn lowest lowestNumbers decHome hasRoom roomPage unusedPlace hasPlace unownedPage allocate notZero computed decHeld calleeMap calleeRegisters returned exec effectAt effectOf closedPages closing leaving stateWrites outputWrites applyState applyOutput runOf stuckSteps decCounts decTerm decStruct structFlat decUses regionBytes treeOf treesOf fieldsOf places codePlaces callOf arithmeticOf memoryOf controlOf byGroup instructionOf codeOf functionOf moduleOf records recordStart recordOf groupOf toCode toRegisters openedFunction done toFunction toName step next nextScan scan whole outcomeOf wentOf firstRegister firstAt objectIn ℕ-discrete decLt decLe
 ran-pages = (refl, refl)
 
 -- its loads and its store touch no byte outside the value
 pub ran-stray : strayBytes (moduleOf example) (ran .steps) ≡ 0
-unfolding start output ran decInPrimitives decNames decInValue strayFrom strayBytes example recordsBytes fileOf file bit withBit number little splice listFrom firstFrom first decBoth decEither decImp decNot decAll decAny decThe mapDec decList decEach decRegion sub decTree decPlaced decPrims beside copiesOf copies subLayout flatWith fieldsFrom fieldsWith layouts flat decRun positionAt decSame asInt asPtr asArr decReg withInt withPtr anInt aPtr decConstant decCopy decOperate decZero decSigned decAddress decCheck decField decIndex decThrough decLoad decStore decWhole decNew decFree decInput decOutput decJump decBranch decCall decReturn decTyped frameFunction frameInstruction frameRegister frameMap pageOwner pageMark memoryByte view memoryNumber written wordsOf frameOf decLocal decLive localList liveList look typeOf decStands decValue operationOf flag valueIf leftBy rightBy magnitude nearestOf signedBy nearestBy biased operated signExtended need onInt onPtr onArr decIsCall decStandsAtCall onCall isIn lowest lowestNumbers decHome hasRoom roomPage unusedPlace hasPlace unownedPage allocate notZero computed decHeld calleeMap calleeRegisters returned exec effectAt effectOf closedPages closing leaving stateWrites outputWrites applyState applyOutput runOf stuckSteps decCounts decTerm decStruct structFlat decUses regionBytes treeOf treesOf fieldsOf places codePlaces callOf arithmeticOf memoryOf controlOf byGroup instructionOf codeOf functionOf moduleOf records recordStart recordOf groupOf toCode toRegisters openedFunction done toFunction toName step next nextScan scan whole outcomeOf wentOf firstRegister firstState objectIn ℕ-discrete decLt decLe
+unfolding start output ran decInPrimitives decNames decInValue strayFrom strayBytes example recordsBytes fileOf file bit withBit number little splice listFrom firstFrom first decBoth decEither decImp decNot decAll decAny decThe mapDec decList decEach decRegion sub decTree decPlaced decPrims beside copiesOf copies subLayout flatWith fieldsFrom fieldsWith layouts flat decRun positionAt decSame asInt asPtr asArr decReg withInt withPtr anInt aPtr decConstant decCopy decOperate decZero decSigned decAddress decCheck decField decIndex decThrough decLoad decStore decWhole decNew decFree decInput decOutput decJump decBranch decCall decReturn decTyped frameFunction frameInstruction frameRegister frameMap pageOwner pageMark memoryByte view memoryNumber written wordsOf frameOf decLocal decLive localList liveList look typeOf decStands decValue operationOf flag valueIf leftBy rightBy magnitude nearestOf signedBy nearestBy biased operated signExtended need onInt onPtr onArr decIsCall decStandsAtCall onCall isIn lowest lowestNumbers decHome hasRoom roomPage unusedPlace hasPlace unownedPage allocate notZero computed decHeld calleeMap calleeRegisters returned exec effectAt effectOf closedPages closing leaving stateWrites outputWrites applyState applyOutput runOf stuckSteps decCounts decTerm decStruct structFlat decUses regionBytes treeOf treesOf fieldsOf places codePlaces callOf arithmeticOf memoryOf controlOf byGroup instructionOf codeOf functionOf moduleOf records recordStart recordOf groupOf toCode toRegisters openedFunction done toFunction toName step next nextScan scan whole outcomeOf wentOf firstRegister firstAt objectIn ℕ-discrete decLt decLe
 ran-stray = refl
 
 -- ---- going on, and the claim
@@ -141,18 +141,18 @@ no-bytes i = omega arith
 pub example-goes : goOf example [] start output 1000 ≡ went (ended 0) 10 (ran .state) (ran .output)
 unfolding ran output
 example-goes =
-    let s = opened-steady example [] (replicate stateBytes 0) start accepted-example no-bytes opened-example in
-    go-went example [] start output 1000 accepted-example no-bytes (omega arith) (s .0 .bytes) (s .0 .passes) (s .1) (length-replicate {A = ℕ} outputBytes 0)
+    let s = opened-steady allPages (omega arith) (omega arith) example [] (replicate stateBytes 0) start accepted-example no-bytes opened-example in
+    go-went allPages example [] start output 1000 accepted-example no-bytes (omega arith) (s .0 .bytes) (s .0 .passes) (s .2) (s .1) (length-replicate {A = ℕ} outputBytes 0)
     ∙ ap₂ (λ (a : Outcome) (n : ℕ). went a n (ran .state) (ran .output)) ran-outcome ran-steps
 
 -- demand 3 for every list of calls of it, from its opening
-pub example-sound : (calls : List Call) → Lent example calls start → Claim example calls start
+pub example-sound : (calls : List Call) → Lent allPages example calls start → Claim allPages example calls start
 example-sound calls l = demand-3 example accepted-example calls start (fromOpening [] (replicate stateBytes 0) no-bytes opened-example) l
 
 -- and of the list of this one call
 pub oneCall : Call
 oneCall = record { file = example; form = []; output = output; budget = 1000; formBytes = no-bytes }
 
-pub example-claim : Claim example (oneCall ∷ []) start
+pub example-claim : Claim allPages example (oneCall ∷ []) start
 unfolding oneCall
 example-claim = example-sound (oneCall ∷ []) (inl refl, tt)

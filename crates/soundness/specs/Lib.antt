@@ -16,8 +16,9 @@ pub mod Bounds
 -- the state test in document 01's words is the invariant; opening passes it
 pub mod Bridge
 pub mod Opening
--- free and used objects of a step (document 02, P1)
+-- of a step: free and used objects (document 02, P1), and the pages that it touches
 pub mod Objects
+pub mod Range
 -- runs, then lists of calls
 pub mod Sound
 pub mod Stray

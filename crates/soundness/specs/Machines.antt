@@ -15,7 +15,7 @@ use Rattle.words.specs.FirstLaws.{firstFrom-least}
 use Rattle.words.specs.Choose.{cond-eq, split-lt, true-not-false}
 use Rattle.rules.specs.Limits.{outputBytes, stateBytes}
 use Rattle.rules.specs.Decode.{moduleOf}
-use Rattle.rules.specs.State.{view}
+use Rattle.rules.specs.State.{view, allPages}
 use Rattle.rules.specs.Heap.{placesInPage}
 use Rattle.rules.specs.Step.{Effect, stop, hasRoom, roomPage, hasPlace, unownedPage, allocate}
 use Rattle.rules.specs.Host.{Outcome, ended, running, Went, went, outcomeOf, goOf, firstState, leftState, leftOutput}
@@ -34,7 +34,7 @@ blank = replicate outputBytes 0
 
 runs-fresh : outcomeOf (view fresh) ≡ running
 unfolding outcomeOf fresh
-runs-fresh = cond-eq running _ (opened-steady workedFile [] (replicate stateBytes 7) (firstState (moduleOf workedFile) []) accepted-worked no-bytes (cases.worked .opens) .1)
+runs-fresh = cond-eq running _ (opened-steady allPages (omega arith) (omega arith) workedFile [] (replicate stateBytes 7) (firstState (moduleOf workedFile) []) accepted-worked no-bytes (cases.worked .opens) .1)
 
 goes : goOf workedFile [] fresh blank 1000000 ≡ went (ended 42) 2 (worked-ran .state) (worked-ran .output)
 unfolding fresh blank

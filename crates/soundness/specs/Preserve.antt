@@ -12,7 +12,7 @@ use Rattle.words.specs.Decide.{does-true, does-false}
 use Rattle.rules.specs.Types.{variable, live, Variable, region, Tree, width, arg, Uses}
 use Rattle.rules.specs.Module.{Module, regions, argument, call}
 use Rattle.rules.specs.Flat.{size}
-use Rattle.rules.specs.State.{View, memoryNumber}
+use Rattle.rules.specs.State.{InRange, View, memoryNumber}
 use Rattle.rules.specs.Heap.{close, Local, Live, decLocal, liveList, typeOf, HeapTyping, heapTyping, Value}
 use Rattle.rules.specs.Step.{closes}
 use Rattle.rules.specs.StateTest.{Chained, FramesOk}
@@ -116,7 +116,7 @@ frames-move m fn pc map k d s h = record {
 pub good-moved : (m : Module) (v : View) (k d : ℕ) → Good m v (suc k) → d < m .function (v .fn k) .codeLength → Good m (moved k d v) (suc k)
 good-moved m v k d g h = record {
   frames = frames-move m (v .fn) (v .pc) (v .map) k d (g .frames) h;
-  page0 = g .page0;
+  inRange = g .inRange;
   owners = g .owners;
   marks = g .marks;
   registers = g .registers;
@@ -129,7 +129,7 @@ pub good-wrote : (m : Module) (v : View) (k a x : ℕ) → Good m v (suc k) → 
     → Value m (heapTyping m v (suc k)) (close (v .map k) (m .function (v .fn k) .registerType a)) x → Good m (wrote k a x v) (suc k)
 good-wrote m v k a x g h y = record {
   frames = frames-move m (v .fn) (v .pc) (v .map) k (suc (v .pc k)) (g .frames) h;
-  page0 = g .page0;
+  inRange = g .inRange;
   owners = g .owners;
   marks = g .marks;
   registers = λ j l b i.
@@ -143,7 +143,7 @@ good-wrote m v k a x g h y = record {
 pub good-saved : (m : Module) (v : View) (n x y : ℕ) (q : Tree live) → Good m v n → Slot m (heapTyping m v n) x q → Value m (heapTyping m v n) q y → Good m (saved x (width q) y v) n
 good-saved m v n x y q g s h = record {
   frames = g .frames;
-  page0 = g .page0;
+  inRange = g .inRange;
   owners = g .owners;
   marks = g .marks;
   registers = g .registers;
@@ -160,7 +160,7 @@ good-saved m v n x y q g s h = record {
 pub good-marked : (m : Module) (v : View) (n p j b : ℕ) → Good m v n → (v .owner p ≡ 0 → b ≡ 0) → Good m (marked p j b v) n
 good-marked m v n p j b g h = record {
   frames = g .frames;
-  page0 = g .page0;
+  inRange = g .inRange;
   owners = g .owners;
   marks = λ q l i o e. upd2-cases (λ (x : ℕ). x ≡ 0) (v .mark) p j b q i (λ d c. h (rw d at e)) (g .marks q l i o e);
   registers = g .registers;
@@ -172,7 +172,7 @@ pub good-emptied : (m : Module) (v : View) (n p j s r : ℕ) → Good m v n → 
     → Good m (emptied (pageBytes * p + s * j) s v) n
 good-emptied m v n p j s r g own is whole = record {
   frames = g .frames;
-  page0 = g .page0;
+  inRange = g .inRange;
   owners = g .owners;
   marks = g .marks;
   registers = g .registers;
@@ -216,10 +216,10 @@ good-emptied m v n p j s r g own is whole = record {
             rw (memoryNumber-cleared (v .memory) (pageBytes * p + s * j) s x (width q) (omega (arith, at, there)) (omega (arith, at, end, there)))
             (value-zero m (heapTyping m v n) q (flat-has-prim m (typeOf m (v .fn) (v .map) n (l .region)) (l .has)))
 
-pub good-granted : (m : Module) (v : View) (n p r : ℕ) → Good m v n → 0 < p → v .owner p ≡ 0 → Live m (v .fn) (v .map) n (suc r) → Good m (granted p r v) n
+pub good-granted : (m : Module) (v : View) (n p r : ℕ) → Good m v n → InRange (v .range) p → v .owner p ≡ 0 → Live m (v .fn) (v .map) n (suc r) → Good m (granted p r v) n
 good-granted m v n p r g a e l = record {
   frames = g .frames;
-  page0 = upd-other (v .owner) p (suc r) 0 (omega arith) ∙ g .page0;
+  inRange = λ q b. upd-cases (λ (x : ℕ). 0 < x → InRange (v .range) q) (v .owner) p (suc r) q (λ d h. rw d a) (λ d. g .inRange q b);
   owners = λ q b. upd-cases (λ (x : ℕ). 0 < x → Live m (v .fn) (v .map) n x) (v .owner) p (suc r) q (λ d h. l) (λ d. g .owners q b);
   marks = λ q b j o. upd-cases (λ (x : ℕ). x ≡ 0 → v .mark q j ≡ 0) (v .owner) p (suc r) q (λ d h. g .marks q b j o (ap (v .owner) d ∙ e)) (λ d. g .marks q b j o);
   registers = λ k h i j.
@@ -326,13 +326,13 @@ module _ (m : Module) (ok : ModuleOk m) (v : View) (k : ℕ) (g : Good m v (suc 
   closed-marks p l j o h =
       cond-split (λ (x : ℕ). x ≡ 0) (closes m v k p) 0 (v .mark p j) (λ c. refl) (λ c. g .marks p l j o (sym (cond-no 0 (v .owner p) c) ∙ h))
 
-  closed-page0 : closedOwner m v k 0 ≡ 0
-  closed-page0 = cond-split (λ (x : ℕ). x ≡ 0) (closes m v k 0) 0 (v .owner 0) (λ c. refl) (λ c. g .page0)
+  closed-range : (p : ℕ) → p < pages → 0 < closedOwner m v k p → InRange (v .range) p
+  closed-range p l = cond-split (λ (x : ℕ). 0 < x → InRange (v .range) p) (closes m v k p) 0 (v .owner p) (λ c h. absurd (not-suc-le-zero h)) (λ c. g .inRange p l)
 
   pub good-closed : Good m (closed m k v) k
   good-closed = record {
     frames = frames-agree m (v .fn) (v .pc) (upd (v .fn) k 0) (upd (v .pc) k 0) (v .map) (upd (v .map) k (λ _. 0)) k low-fn low-pc low-map (frames-less m (v .fn) (v .pc) (v .map) k (g .frames));
-    page0 = closed-page0;
+    inRange = closed-range;
     owners = λ p b h.
         let c = left-owner p h in
         rw (c .0) (live-agree m (v .fn) (upd (v .fn) k 0) (v .map) (upd (v .map) k (λ _. 0)) k (v .owner p) low-fn low-map
@@ -468,7 +468,7 @@ module _ (m : Module) (ok : ModuleOk m) (v : View) (k g : ℕ) (μ ρ : ℕ → 
   pub good-pushed : Good m (pushed k g μ ρ v) (suc (suc k))
   good-pushed = record {
     frames = pushed-frames;
-    page0 = y .page0;
+    inRange = y .inRange;
     owners = λ p b h.
         live-more m (upd (v .fn) (suc k) g) (upd (v .map) (suc k) μ) (suc k) (suc (suc k)) (v .owner p) (omega arith)
         (live-agree m (v .fn) (upd (v .fn) (suc k) g) (v .map) (upd (v .map) (suc k) μ) (suc k) (v .owner p) old-fn old-map (y .owners p b h));

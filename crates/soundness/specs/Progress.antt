@@ -15,17 +15,17 @@ use Rattle.words.specs.Bytes.{Bytes, AllBytes, byteAt}
 use Rattle.words.specs.First.{first}
 use Rattle.words.specs.FirstLaws.{firstFrom-least, first-fails}
 use Rattle.words.specs.Choose.{cond-lt, cond-nlt, cond-split, split-lt, split-eq, both}
-use Rattle.rules.specs.Limits.{pages, pageBytes, firstPage, pastPage, mostFrames, outputBytes, zeroAddress, checkFails, noPage, indexPast, formEnded, outputFull, tooDeep}
+use Rattle.rules.specs.Limits.{pages, pageBytes, mostFrames, outputBytes, zeroAddress, checkFails, noPage, indexPast, formEnded, outputFull, tooDeep}
 use Rattle.words.specs.Decide.{does, does-true, decAll}
 use Rattle.rules.specs.Types.{variable, live, Variable, region, Tree, int, ptr, arr, sub, width, arg, Uses, in-ptr, Primitive}
 use Rattle.rules.specs.Module.{Module, Function, regions, argument, Instruction, operate, check, new, call}
 use Rattle.rules.specs.Flat.{flat, size, distance, Same}
 use Rattle.rules.specs.Typing.{_⊢_∶_, Typed, t-constant, t-copy, t-operate, t-quotient, t-compare, t-zeroExtend, t-signExtend, t-address, t-checkInteger, t-checkPointer, t-field, t-index, t-load, t-store, t-new, t-free, t-input, t-output, t-jump, t-branch, t-call, t-return}
 use Rattle.rules.specs.Decision.{decTyped}
-use Rattle.rules.specs.State.{View}
+use Rattle.rules.specs.State.{lowPage, endPage, View}
 use Rattle.rules.specs.Heap.{close, decLive, liveList, typeOf, HeapTyping, heapTyping, placesInPage, Stands, decStands, Value}
 use Rattle.rules.specs.Arithmetic.{Computed, value, halt, operationOf, operated, cut, signExtended}
-use Rattle.rules.specs.Step.{Effect, assign, takePlace, grantPage, freePlace, goTo, emit, push, pop, stop, need, onInt, onPtr, onArr, onCall, StandsAtCall, decStandsAtCall, lowestNumbers, Home, decHome, hasRoom, roomPage, unusedPlace, hasPlace, unownedPage, allocate, notZero, computed, Held, decHeld, calleeMap, calleeRegisters, returned, exec, effectAt}
+use Rattle.rules.specs.Step.{Effect, assign, takePlace, grantPage, freePlace, goTo, emit, push, pop, stop, need, onInt, onPtr, onArr, onCall, StandsAtCall, decStandsAtCall, lowestNumbers, Home, decHome, hasRoom, roomPage, unusedPlace, hasPlace, unownedPage, allocate, allocateIn, notZero, computed, Held, decHeld, calleeMap, calleeRegisters, returned, exec, effectAt}
 use Rattle.rules.specs.StateTest.{Listed, Chained, site-unique}
 use Rattle.rules.specs.SafeStep.{Touches}
 use Rattle.layout.specs.TypesOk.{GoodTree, good-ptr}
@@ -235,11 +235,11 @@ module _ (m : Module) (ok : ModuleOk m) (form : Bytes) (bytes : AllBytes form) (
   granted-set a T r q ra n h = record { register = ra .0; next = n; value = rw (ra .1) (inr h) }
 
   allocate-safe : (a : ℕ) (T : Tree variable) (r : Variable) → top m v k ⊢ a ∶ ptr T r → Same (flat m T) (flat m (top m v k .regionType (r .number))) → Next m v k
-      → Safe m v k (allocate (v .owner) (v .mark) firstPage pastPage (v .map k (r .number)) (size m (top m v k .regionType (r .number))) a)
+      → Safe m v k (allocateIn v (v .map k (r .number)) (size m (top m v k .regionType (r .number))) a)
   unfolding allocate roomPage unownedPage hasRoom hasPlace
   allocate-safe a T r ra e n =
-      split-lt (Safe m v k) p pastPage (takePlace p (unusedPlace (v .mark) (placesInPage s) p) s a) (cond (ltb q pastPage) (grantPage q i a) (stop noPage)) old
-      (λ _. split-lt (Safe m v k) q pastPage (grantPage q i a) (stop noPage) fresh (λ _. listed noPage (omega arith) (omega arith)))
+      split-lt (Safe m v k) p hi (takePlace p (unusedPlace (v .mark) places p) s a) (cond (ltb q hi) (grantPage q i a) (stop noPage)) old
+      (λ _. split-lt (Safe m v k) q hi (grantPage q i a) (stop noPage) fresh (λ _. listed noPage (omega arith) (omega arith)))
     where
       i : ℕ
       i = v .map k (r .number)
@@ -247,45 +247,58 @@ module _ (m : Module) (ok : ModuleOk m) (form : Bytes) (bytes : AllBytes form) (
       s : ℕ
       s = size m (top m v k .regionType (r .number))
 
+      places : ℕ
+      places = placesInPage s
+
+      lo : ℕ
+      lo = lowPage (v .range)
+
+      hi : ℕ
+      hi = endPage (v .range)
+
       p : ℕ
-      p = roomPage (v .owner) (hasPlace (v .mark) (placesInPage s)) firstPage pastPage i
+      p = roomPage (v .owner) (hasPlace (v .mark) places) lo hi i
 
       q : ℕ
-      q = unownedPage (v .owner) firstPage pastPage
+      q = unownedPage (v .owner) lo hi
 
       scope : r .number < regions (top m v k)
       scope = pointer-scope a T r ra
 
-      old : p < pastPage → Safe m v k (takePlace p (unusedPlace (v .mark) (placesInPage s) p) s a)
+      old : p < hi → Safe m v k (takePlace p (unusedPlace (v .mark) places p) s a)
       old h =
-          let l = firstFrom-least (λ p. not (hasRoom (v .owner) (hasPlace (v .mark) (placesInPage s)) i p)) firstPage (pastPage - firstPage) in
-          let b = not-false (hasRoom (v .owner) (hasPlace (v .mark) (placesInPage s)) i p) (l .fails h) in
-          let c = both (eqb (v .owner p) (suc i)) (ltb (unusedPlace (v .mark) (placesInPage s) p) (placesInPage s)) b in
+          let l = firstFrom-least (λ p. not (hasRoom (v .owner) (hasPlace (v .mark) places) i p)) lo (hi - lo) in
+          let from = l .from in
+          let inside : p < pages = omega arith in
+          let b = not-false (hasRoom (v .owner) (hasPlace (v .mark) places) i p) (l .fails (omega arith)) in
+          let c = both (eqb (v .owner p) (suc i)) (ltb (unusedPlace (v .mark) places p) places) b in
           let own : v .owner p ≡ suc i = eqb-true (v .owner p) (suc i) (c .0) in
-          let j : ℕ = unusedPlace (v .mark) (placesInPage s) p in
-          let place : j < placesInPage s = ltb-true j (placesInPage s) (c .1) in
+          let j : ℕ = unusedPlace (v .mark) places p in
+          let place : j < places = ltb-true j places (c .1) in
           let fits : s * suc j ≤ pageBytes = places-fit s j (region-size (r .number) scope .0) place in
           let one : 1 * suc j ≤ s * suc j = mul-le-mul-right (suc j) (region-size (r .number) scope .0) in
           record {
             region = i;
-            inside = h;
+            inside = inside;
             place = omega (arith, fits, one);
             own = own;
             size = sym (object-size (r .number) scope);
             fits = fits;
-            unused = unused-place (v .mark) (placesInPage s) p place;
-            register = set-run a T r (pageBytes * p + s * j) ra n (object-run (heapTyping m v (suc k)) refl a T r ra e p j h own fits);
+            unused = unused-place (v .mark) places p place;
+            register = set-run a T r (pageBytes * p + s * j) ra n (object-run (heapTyping m v (suc k)) refl a T r ra e p j inside own fits);
           }
 
-      fresh : q < pastPage → Safe m v k (grantPage q i a)
+      fresh : q < hi → Safe m v k (grantPage q i a)
       fresh h =
-          let l = firstFrom-least (λ p. not (eqb (v .owner p) 0)) firstPage (pastPage - firstPage) in
-          let z : v .owner q ≡ 0 = eqb-true (v .owner q) 0 (not-false (eqb (v .owner q) 0) (l .fails h)) in
+          let l = firstFrom-least (λ p. not (eqb (v .owner p) 0)) lo (hi - lo) in
+          let from = l .from in
+          let inside : q < pages = omega arith in
+          let z : v .owner q ≡ 0 = eqb-true (v .owner q) 0 (not-false (eqb (v .owner q) 0) (l .fails (omega arith))) in
           let at : pageBytes * q + s * 0 ≡ pageBytes * q = omega arith in
-          let run = object-run (heapTyping m (granted q i v) (suc k)) refl a T r ra e q 0 h (upd-same (v .owner) q (suc i)) (omega (arith, region-size (r .number) scope .1)) in
+          let run = object-run (heapTyping m (granted q i v) (suc k)) refl a T r ra e q 0 inside (upd-same (v .owner) q (suc i)) (omega (arith, region-size (r .number) scope .1)) in
           record {
-            above = l .from;
-            inside = h;
+            inRange = (from, h);
+            inside = inside;
             unowned = z;
             alive = home (r .number) scope .alive;
             fits = rw (object-size (r .number) scope) (region-size (r .number) scope .1);
@@ -442,7 +455,7 @@ module _ (m : Module) (ok : ModuleOk m) (form : Bytes) (bytes : AllBytes form) (
       }))))
   kind-safe e (t-new {a} {r} {T} ra scope same) n =
       onPtr-safe (Safe m v k) (top m v k .registerType a) T r
-      (λ T r. need (decHome m (v .fn) (v .map) k (top m v k) r) (allocate (v .owner) (v .mark) firstPage pastPage (v .map k r) (size m (top m v k .regionType r)) a)) (ra .1)
+      (λ T r. need (decHome m (v .fn) (v .map) k (top m v k) r) (allocateIn v (v .map k r) (size m (top m v k .regionType r)) a)) (ra .1)
       (need-safe (Safe m v k) (decHome m (v .fn) (v .map) k (top m v k) (r .number)) _ (home (r .number) scope) (allocate-safe a T r ra same n))
   kind-safe e (t-free {a} {r} {T} ra scope same) n =
       need-safe (Safe m v k) (decHeld m form v k (top m v k) a) _ (held a (ra .0))

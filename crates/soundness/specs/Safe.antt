@@ -6,7 +6,7 @@ use Rattle.rules.specs.Limits.{pages, pageBytes, outputBytes}
 use Rattle.rules.specs.Types.{live, Tree, width}
 use Rattle.rules.specs.Module.{Module}
 use Rattle.rules.specs.Flat.{size as sizeOf}
-use Rattle.rules.specs.State.{View}
+use Rattle.rules.specs.State.{InRange, View}
 use Rattle.rules.specs.Heap.{close, Live, typeOf, heapTyping, Value}
 use Rattle.rules.specs.Step.{Effect, assign, fetch, save, takePlace, grantPage, freePlace, goTo, emit, push, pop, finish, stop, stuck}
 use Rattle.rules.specs.StateTest.{Listed}
@@ -52,7 +52,7 @@ pub record SafeTake (m : Module) (v : View) (k p j n a : ℕ) : Type 0 where
   pub register : SafeSet m v k a (pageBytes * p + n * j)
 
 pub record SafeGrant (m : Module) (v : View) (k p r a : ℕ) : Type 0 where
-  pub above : 0 < p
+  pub inRange : InRange (v .range) p
   pub inside : p < pages
   pub unowned : v .owner p ≡ 0
   pub alive : Live m (v .fn) (v .map) (suc k) (suc r)

@@ -1,5 +1,5 @@
 -- Demand 3 over runs: each step is safe, the state test holds after it, and the pages add up. Assumes nothing.
-use mathlib.Core.Path.{_≡_, refl, sym, subst}
+use mathlib.Core.Path.{_≡_, refl, sym, ap, _∙_, subst}
 use mathlib.Core.Bool.{Bool, true, false}
 use mathlib.Core.Logic.{_≢_}
 use mathlib.Core.List.{List, [], _∷_, _++_}
@@ -15,8 +15,10 @@ use Rattle.rules.specs.Step.{Effect, assign, fetch, save, takePlace, grantPage,
 use Rattle.rules.specs.Footprint.{footprint}
 use Rattle.rules.specs.Run.{Step, topOf, stepOf, stateAfter, outputAfter, Trace, noSteps, runOf, isStuck, stuckSteps}
 use Rattle.rules.specs.StateTest.{StatusOk, running, stopped, ended, SpareOk}
-use Rattle.rules.specs.SafeStep.{SafeStep, AllSafe}
+use Rattle.rules.specs.SafeStep.{SafeStep, AllSafe, AllRanged}
 use Rattle.rules.specs.Calls.{owned, granted, handedBack}
+use Rattle.rules.specs.declared.PageRange.{PageRange}
+use Rattle.state.specs.Apply.{apply}
 use Rattle.state.specs.Effects.{Bounded, view-apply}
 use Rattle.state.specs.Whole.{Whole, whole-apply}
 use Rattle.state.specs.Independence.{decides-law, reads-law, keeps-law, clears-law}
@@ -25,6 +27,7 @@ use Rattle.soundness.specs.Good.{Good}
 use Rattle.soundness.specs.Safe.{Safe}
 use Rattle.soundness.specs.Progress.{progress}
 use Rattle.soundness.specs.Objects.{new-taken, new-zero, free-kept, used-kept, used-stays}
+use Rattle.soundness.specs.Range.{touched-range}
 use Rattle.soundness.specs.Step.{Test, fetched, pages-step, preserve, ended-none}
 use Rattle.soundness.specs.Bounds.{bounded}
 use Rattle.soundness.specs.Bridge.{test-passes}
@@ -52,6 +55,22 @@ stuck-none m v k (finish x) f = refl
 stuck-none m v k (stop i) f = refl
 stuck-none m v k stuck f = absurd f
 
+-- no effect changes the range
+range-apply : (m : Module) (k : ℕ) (e : Effect) (v : View) → apply m k e v .range ≡ v .range
+range-apply m k (assign a x) v = refl
+range-apply m k (fetch b a x w) v = refl
+range-apply m k (save b x w y) v = refl
+range-apply m k (takePlace p j n a) v = refl
+range-apply m k (grantPage p r a) v = refl
+range-apply m k (freePlace p j) v = refl
+range-apply m k (goTo d) v = refl
+range-apply m k (emit x) v = refl
+range-apply m k (push g μ ρ) v = refl
+range-apply m k (pop c a x) v = refl
+range-apply m k (finish x) v = refl
+range-apply m k (stop i) v = refl
+range-apply m k stuck v = refl
+
 pub status-going : (v : View) → StatusOk v → v .status ≡ 0 → (0 < v .frames) × (v .result ≡ 0)
 status-going v (running a b c) e = (b, c)
 status-going v (stopped a b c) e = (b, c)
@@ -76,6 +95,8 @@ pub record Sound (m : Module) (s : Bytes) (r : Trace) : Type 0 where
   pub none : stuckSteps (r .steps) ≡ 0
   pub test : Test m (view (r .state))
   pub whole : Whole (r .state)
+  pub ranged : AllRanged (view s .range) (r .steps)
+  pub range : view (r .state) .range ≡ view s .range
   pub pages : owned (r .state) + handedBack m (r .steps) ≡ owned s + granted (r .steps)
 
 module _ (m : Module) (ok : ModuleOk m) where
@@ -110,6 +131,7 @@ module _ (m : Module) (ok : ModuleOk m) where
     pub moving : isStuck (effectOf m form (view s)) ≡ 0
     pub test : Test m (view (stateAfter m (stepOf m form s o)))
     pub whole : Whole (stateAfter m (stepOf m form s o))
+    pub range : view (stateAfter m (stepOf m form s o)) .range ≡ view s .range
     pub pages : owned (stateAfter m (stepOf m form s o)) + handedBackBy m (view s) (topFrame s) (effectOf m form (view s)) ≡ owned s + footprint (effectOf m form (view s)) .grants
 
   pub stepped : (form s o : Bytes) → AllBytes form → Test m (view s) → Whole s → view s .status ≡ 0 → Stepped form s o
@@ -142,16 +164,18 @@ module _ (m : Module) (ok : ModuleOk m) where
           used = used-kept m (stepOf m form s o) (r .frame) f (r .good) keeps;
           stays = used-stays m (stepOf m form s o) (r .frame) f (r .good) after;
           after = test-passes m ok (stateAfter m (stepOf m form s o)) (held .size) (held .spare) test;
+          ownPages = λ i l. touched-range m (view s) (topFrame s) (r .good) (effectOf m form (view s)) f i l;
         };
         moving = stuck-none m (view s) (topFrame s) (effectOf m form (view s)) f;
         test = test;
         whole = held;
+        range = ap (λ (v : View). v .range) after ∙ range-apply m (topFrame s) (effectOf m form (view s)) (view s);
         pages = rw after (pages-step m (view s) (topFrame s) (effectOf m form (view s)) f);
       }
 
   pub stay : (s o : Bytes) → Test m (view s) → Whole s → Sound m s (noSteps s o)
   unfolding stuckSteps granted handedBack
-  stay s o t w = record { steps = tt; none = refl; test = t; whole = w; pages = refl }
+  stay s o t w = record { steps = tt; none = refl; test = t; whole = w; ranged = tt; range = refl; pages = refl }
 
   pub run-sound : (form : Bytes) → AllBytes form → (b : ℕ) (s o : Bytes) → Test m (view s) → Whole s → Sound m s (runOf m form b s o)
   unfolding runOf stuckSteps granted handedBack
@@ -174,6 +198,8 @@ module _ (m : Module) (ok : ModuleOk m) where
             none = omega (arith, p .moving, q .none);
             test = q .test;
             whole = q .whole;
+            ranged = (refl, rw (p .range) at (q .ranged));
+            range = q .range ∙ p .range;
             pages = omega (arith, p .pages, q .pages);
           }
       go false e ih = stay s o t w
@@ -183,6 +209,10 @@ module _ (m : Module) (ok : ModuleOk m) where
 pub safe-append : (m : Module) (a b : List Step) → AllSafe m a → AllSafe m b → AllSafe m (a ++ b)
 safe-append m [] b p q = q
 safe-append m (t ∷ a) b p q = (p .0, safe-append m a b (p .1) q)
+
+pub ranged-append : (R : PageRange) (a b : List Step) → AllRanged R a → AllRanged R b → AllRanged R (a ++ b)
+ranged-append R [] b p q = q
+ranged-append R (t ∷ a) b p q = (p .0, ranged-append R a b (p .1) q)
 
 pub stuck-append : (a b : List Step) → stuckSteps (a ++ b) ≡ stuckSteps a + stuckSteps b
 unfolding stuckSteps

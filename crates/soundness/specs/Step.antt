@@ -67,10 +67,10 @@ pub record Test (m : Module) (v : View) : Type 0 where
   pub spare : SpareOk m v (v .frames)
 
 good-became : (m : Module) (v : View) (n s x : ℕ) → Good m v n → Good m (became s x v) n
-good-became m v n s x g = record { frames = g .frames; page0 = g .page0; owners = g .owners; marks = g .marks; registers = g .registers; slots = g .slots }
+good-became m v n s x g = record { frames = g .frames; inRange = g .inRange; owners = g .owners; marks = g .marks; registers = g .registers; slots = g .slots }
 
 good-counted : (m : Module) (v : View) (n : ℕ) → Good m v n → Good m (counted v) n
-good-counted m v n g = record { frames = g .frames; page0 = g .page0; owners = g .owners; marks = g .marks; registers = g .registers; slots = g .slots }
+good-counted m v n g = record { frames = g .frames; inRange = g .inRange; owners = g .owners; marks = g .marks; registers = g .registers; slots = g .slots }
 
 -- 34: back in the caller
 module _ (m : Module) (ok : ModuleOk m) (v : View) (c a x : ℕ) (g : Good m v (suc (suc c))) (f : SafePop m v (suc c) c a x) where
@@ -134,7 +134,7 @@ preserve m ok v k (grantPage p r a) n s z o g c f =
     let u : View = granted p r v in
     going m (wrote k a (pageBytes * p) (marked p 0 1 u)) k n s z o
     (good-wrote m (marked p 0 1 u) k a (pageBytes * p)
-    (good-marked m u (suc k) p 0 1 (good-granted m v (suc k) p r g (f .above) (f .unowned) (f .alive))
+    (good-marked m u (suc k) p 0 1 (good-granted m v (suc k) p r g (f .inRange) (f .unowned) (f .alive))
     (λ d. let e : suc r ≡ 0 = sym (upd-same (v .owner) p (suc r)) ∙ d in omega arith))
     (f .register .next) (f .register .value))
     (spare-wrote m (marked p 0 1 u) k a (pageBytes * p)

@@ -18,14 +18,11 @@ use Rattle.rules.specs.Flat.{size}
 use Rattle.rules.specs.Decode.{moduleOf}
 use Rattle.rules.specs.Verdict.{verdictOf, IsAccepted}
 use Rattle.rules.specs.State.{View, view, memoryPlace}
-use Rattle.rules.specs.Heap.{close}
 use Rattle.rules.specs.Step.{Effect, assign, fetch, save, takePlace, grantPage, freePlace, goTo, emit, push, pop, finish, stop, stuck, effectOf, closes}
 use Rattle.rules.specs.Writes.{applyState}
 use Rattle.rules.specs.Run.{Step, topOf, stepOf, stateAfter, outputAfter, Trace, noSteps, runOf}
 use Rattle.rules.specs.StateTest.{Passes}
-use Rattle.rules.specs.SafeStep.{Touches, SameButPages, Reads, SafeStep}
-use Rattle.layout.specs.Flat.{flat-inside}
-use Rattle.layout.specs.Close.{size-close}
+use Rattle.rules.specs.SafeStep.{SameButPages, Reads, SafeStep}
 use Rattle.state.specs.Update.{upd, upd-cases, upd-other, stored, cleared, cleared-in, cleared-out}
 use Rattle.state.specs.Apply.{apply}
 use Rattle.state.specs.Touched.{load-of}
@@ -34,6 +31,7 @@ use Rattle.state.specs.Effects.{Bounded, view-apply}
 use Rattle.state.specs.Whole.{Whole, spare-edges, whole-apply}
 use Rattle.state.specs.Independence.{view-pages, memory-byte}
 use Rattle.soundness.specs.Facts.{ModuleOk, accepted-ok}
+use Rattle.soundness.specs.Range.{touched-owned}
 use Rattle.soundness.specs.Sound.{topFrame}
 use Rattle.soundness.specs.ForCode.{Steady, step-steady}
 use Rattle.soundness.specs.Audit.{effectsOf, SameRun, SameStep, same-reads}
@@ -44,15 +42,6 @@ pub record SameButUnowned (t s : Bytes) : Type 0 where
   pub owned : (i : ℕ) → i < memoryBytes → view s .owner (i / pageBytes) ≢ 0 → byteAt t (memoryPlace i) ≡ byteAt s (memoryPlace i)
 
 -- ---- what a load reads is owned
-
-touched-owned : (m : Module) (v : View) (k b x w i : ℕ) → Touches m v k b x w → x ≤ i → i < x + w → v .owner (i / pageBytes) ≢ 0
-touched-owned m v k b x w i t l h z =
-    let r = t .bytes i l h in
-    let inside : r .distance + _ ≤ size m (close (v .map k) (t .target)) = flat-inside m (close (v .map k) (t .target)) (r .has) in
-    let o = t .object i l (omega (arith, r .high, inside, size-close (v .map k) m (t .target))) in
-    let same : i / pageBytes ≡ v .reg k b / pageBytes = omega (arith, o .low, o .high, o .whole, t .address) in
-    let own : v .owner (i / pageBytes) ≡ suc (v .map k (t .within .number)) = ap (v .owner) same ∙ t .names .run .own in
-    omega arith
 
 reads-owned : (m : Module) (form s o : Bytes) → SafeStep m (stepOf m form s o) → (e : Effect) → effectOf m form (view s) ≡ e → (i : ℕ) → Reads e i → view s .owner (i / pageBytes) ≢ 0
 reads-owned m form s o h e d i r =

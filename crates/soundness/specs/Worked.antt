@@ -22,7 +22,7 @@ use Rattle.words.specs.Decide.{decBoth, decEither, decImp, decNot, decAll, decA
 use Rattle.rules.specs.Types.{decRegion, sub, decTree, decUses}
 use Rattle.rules.specs.Flat.{decPlaced, decPrims, beside, copiesOf, copies, subLayout, flatWith, fieldsFrom, fieldsWith, layouts, flat, decRun, positionAt, decSame, structFlat}
 use Rattle.rules.specs.Decision.{asInt, asPtr, asArr, decReg, withInt, withPtr, anInt, aPtr, decConstant, decCopy, decOperate, decZero, decSigned, decAddress, decCheck, decField, decIndex, decThrough, decLoad, decStore, decWhole, decNew, decFree, decInput, decOutput, decJump, decBranch, decCall, decReturn, decTyped}
-use Rattle.rules.specs.State.{frameFunction, frameInstruction, frameRegister, frameMap, pageOwner, pageMark, memoryByte, view, memoryNumber, written, wordsOf, frameOf}
+use Rattle.rules.specs.State.{frameFunction, frameInstruction, frameRegister, frameMap, pageOwner, pageMark, memoryByte, view, memoryNumber, written, wordsOf, frameOf, allPages}
 use Rattle.rules.specs.Heap.{decLocal, decLive, localList, liveList, look, typeOf, decStands, decValue}
 use Rattle.rules.specs.Arithmetic.{operationOf, flag, valueIf, leftBy, rightBy, magnitude, nearestOf, signedBy, nearestBy, biased, operated, signExtended}
 use Rattle.rules.specs.Step.{need, onInt, onPtr, onArr, decIsCall, decStandsAtCall, onCall, isIn, lowest, lowestNumbers, decHome, hasRoom, roomPage, unusedPlace, hasPlace, unownedPage, allocate, notZero, computed, decHeld, calleeMap, calleeRegisters, returned, exec, effectAt, effectOf, closedPages}
@@ -32,7 +32,7 @@ use Rattle.rules.specs.WellTyped.{decCounts, decTerm, decStruct}
 use Rattle.rules.specs.Decode.{regionBytes, treeOf, treesOf, fieldsOf, places, codePlaces, callOf, arithmeticOf, memoryOf, controlOf, byGroup, instructionOf, codeOf, functionOf, moduleOf}
 use Rattle.rules.specs.File.{records, recordStart, recordOf, groupOf}
 use Rattle.rules.specs.Walk.{toCode, toRegisters, opened as openedFunction, done, toFunction, toName, step, next, nextScan, scan, whole}
-use Rattle.rules.specs.Host.{outcomeOf, wentOf, firstRegister, firstState, objectIn}
+use Rattle.rules.specs.Host.{outcomeOf, wentOf, firstRegister, firstState, objectIn, firstAt}
 use native.Mathlib.Decide.{ℕ-discrete, decLt, decLe}
 
 -- the file's 512 bytes, and the file by its records
@@ -51,11 +51,11 @@ pub worked-ran : Trace
 worked-ran = runOf (moduleOf workedFile) [] 1000000 (firstState (moduleOf workedFile) []) (replicate outputBytes 0)
 
 pub worked-outcome : outcomeOf (view (worked-ran .state)) ≡ ended 42
-unfolding worked-ran bit withBit number little splice listFrom firstFrom first decBoth decEither decImp decNot decAll decAny decThe mapDec decList decEach decRegion sub decTree decPlaced decPrims beside copiesOf copies subLayout flatWith fieldsFrom fieldsWith layouts flat decRun positionAt decSame asInt asPtr asArr decReg withInt withPtr anInt aPtr decConstant decCopy decOperate decZero decSigned decAddress decCheck decField decIndex decThrough decLoad decStore decWhole decNew decFree decInput decOutput decJump decBranch decCall decReturn decTyped frameFunction frameInstruction frameRegister frameMap pageOwner pageMark memoryByte view memoryNumber written wordsOf frameOf decLocal decLive localList liveList look typeOf decStands decValue operationOf flag valueIf leftBy rightBy magnitude nearestOf signedBy nearestBy biased operated signExtended need onInt onPtr onArr decIsCall decStandsAtCall onCall isIn lowest lowestNumbers decHome hasRoom roomPage unusedPlace hasPlace unownedPage allocate notZero computed decHeld calleeMap calleeRegisters returned exec effectAt effectOf closedPages closing leaving stateWrites outputWrites applyState applyOutput runOf stuckSteps decCounts decTerm decStruct structFlat decUses regionBytes treeOf treesOf fieldsOf places codePlaces callOf arithmeticOf memoryOf controlOf byGroup instructionOf codeOf functionOf moduleOf records recordStart recordOf groupOf toCode toRegisters openedFunction done toFunction toName step next nextScan scan whole outcomeOf wentOf firstRegister firstState objectIn ℕ-discrete decLt decLe
+unfolding worked-ran bit withBit number little splice listFrom firstFrom first decBoth decEither decImp decNot decAll decAny decThe mapDec decList decEach decRegion sub decTree decPlaced decPrims beside copiesOf copies subLayout flatWith fieldsFrom fieldsWith layouts flat decRun positionAt decSame asInt asPtr asArr decReg withInt withPtr anInt aPtr decConstant decCopy decOperate decZero decSigned decAddress decCheck decField decIndex decThrough decLoad decStore decWhole decNew decFree decInput decOutput decJump decBranch decCall decReturn decTyped frameFunction frameInstruction frameRegister frameMap pageOwner pageMark memoryByte view memoryNumber written wordsOf frameOf decLocal decLive localList liveList look typeOf decStands decValue operationOf flag valueIf leftBy rightBy magnitude nearestOf signedBy nearestBy biased operated signExtended need onInt onPtr onArr decIsCall decStandsAtCall onCall isIn lowest lowestNumbers decHome hasRoom roomPage unusedPlace hasPlace unownedPage allocate notZero computed decHeld calleeMap calleeRegisters returned exec effectAt effectOf closedPages closing leaving stateWrites outputWrites applyState applyOutput runOf stuckSteps decCounts decTerm decStruct structFlat decUses regionBytes treeOf treesOf fieldsOf places codePlaces callOf arithmeticOf memoryOf controlOf byGroup instructionOf codeOf functionOf moduleOf records recordStart recordOf groupOf toCode toRegisters openedFunction done toFunction toName step next nextScan scan whole outcomeOf wentOf firstRegister firstAt objectIn ℕ-discrete decLt decLe
 worked-outcome = refl
 
 worked-steps : length (worked-ran .steps) ≡ 2
-unfolding worked-ran bit withBit number little splice listFrom firstFrom first decBoth decEither decImp decNot decAll decAny decThe mapDec decList decEach decRegion sub decTree decPlaced decPrims beside copiesOf copies subLayout flatWith fieldsFrom fieldsWith layouts flat decRun positionAt decSame asInt asPtr asArr decReg withInt withPtr anInt aPtr decConstant decCopy decOperate decZero decSigned decAddress decCheck decField decIndex decThrough decLoad decStore decWhole decNew decFree decInput decOutput decJump decBranch decCall decReturn decTyped frameFunction frameInstruction frameRegister frameMap pageOwner pageMark memoryByte view memoryNumber written wordsOf frameOf decLocal decLive localList liveList look typeOf decStands decValue operationOf flag valueIf leftBy rightBy magnitude nearestOf signedBy nearestBy biased operated signExtended need onInt onPtr onArr decIsCall decStandsAtCall onCall isIn lowest lowestNumbers decHome hasRoom roomPage unusedPlace hasPlace unownedPage allocate notZero computed decHeld calleeMap calleeRegisters returned exec effectAt effectOf closedPages closing leaving stateWrites outputWrites applyState applyOutput runOf stuckSteps decCounts decTerm decStruct structFlat decUses regionBytes treeOf treesOf fieldsOf places codePlaces callOf arithmeticOf memoryOf controlOf byGroup instructionOf codeOf functionOf moduleOf records recordStart recordOf groupOf toCode toRegisters openedFunction done toFunction toName step next nextScan scan whole outcomeOf wentOf firstRegister firstState objectIn ℕ-discrete decLt decLe
+unfolding worked-ran bit withBit number little splice listFrom firstFrom first decBoth decEither decImp decNot decAll decAny decThe mapDec decList decEach decRegion sub decTree decPlaced decPrims beside copiesOf copies subLayout flatWith fieldsFrom fieldsWith layouts flat decRun positionAt decSame asInt asPtr asArr decReg withInt withPtr anInt aPtr decConstant decCopy decOperate decZero decSigned decAddress decCheck decField decIndex decThrough decLoad decStore decWhole decNew decFree decInput decOutput decJump decBranch decCall decReturn decTyped frameFunction frameInstruction frameRegister frameMap pageOwner pageMark memoryByte view memoryNumber written wordsOf frameOf decLocal decLive localList liveList look typeOf decStands decValue operationOf flag valueIf leftBy rightBy magnitude nearestOf signedBy nearestBy biased operated signExtended need onInt onPtr onArr decIsCall decStandsAtCall onCall isIn lowest lowestNumbers decHome hasRoom roomPage unusedPlace hasPlace unownedPage allocate notZero computed decHeld calleeMap calleeRegisters returned exec effectAt effectOf closedPages closing leaving stateWrites outputWrites applyState applyOutput runOf stuckSteps decCounts decTerm decStruct structFlat decUses regionBytes treeOf treesOf fieldsOf places codePlaces callOf arithmeticOf memoryOf controlOf byGroup instructionOf codeOf functionOf moduleOf records recordStart recordOf groupOf toCode toRegisters openedFunction done toFunction toName step next nextScan scan whole outcomeOf wentOf firstRegister firstAt objectIn ℕ-discrete decLt decLe
 worked-steps = refl
 
 -- "ended 42 2"
@@ -63,6 +63,6 @@ pub worked-goes : goOf workedFile [] (firstState (moduleOf workedFile) []) (repl
     ≡ went (ended 42) 2 (worked-ran .state) (worked-ran .output)
 unfolding worked-ran
 worked-goes =
-    let s = opened-steady workedFile [] (replicate stateBytes 7) (firstState (moduleOf workedFile) []) accepted-worked no-bytes (cases.worked .opens) in
-    go-went workedFile [] (firstState (moduleOf workedFile) []) (replicate outputBytes 0) 1000000 accepted-worked no-bytes (omega arith) (s .0 .bytes) (s .0 .passes) (s .1) (length-replicate {A = ℕ} outputBytes 0)
+    let s = opened-steady allPages (omega arith) (omega arith) workedFile [] (replicate stateBytes 7) (firstState (moduleOf workedFile) []) accepted-worked no-bytes (cases.worked .opens) in
+    go-went allPages workedFile [] (firstState (moduleOf workedFile) []) (replicate outputBytes 0) 1000000 accepted-worked no-bytes (omega arith) (s .0 .bytes) (s .0 .passes) (s .2) (s .1) (length-replicate {A = ℕ} outputBytes 0)
     ∙ ap₂ (λ (a : Outcome) (n : ℕ). went a n (worked-ran .state) (worked-ran .output)) worked-outcome worked-steps

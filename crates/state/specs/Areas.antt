@@ -3,7 +3,7 @@
 use mathlib.Core.Path.{_≡_, refl, ap, fun-ext}
 use mathlib.Core.Bool.{Bool, true, false, cond, _&&_}
 use mathlib.Core.Logic.{_⊎_, inl, inr}
-use Prim.Native.Nat.{ℕ, _+_, _%_, _<_, _≤_}
+use Prim.Native.Nat.{ℕ, suc, _+_, _%_, _<_, _≤_}
 use native.Mathlib.Omega.{arith}
 use lib.Dec.{ltb}
 use lib.ListN.{length}
@@ -12,8 +12,9 @@ use Rattle.words.specs.Bytes.{Bytes, byteAt, number, splice}
 use Rattle.words.specs.ByteLaws.{getD-splice-out, number-agree}
 use Rattle.words.specs.Bits.{bit}
 use Rattle.words.specs.Choose.{both}
-use Rattle.rules.specs.Limits.{pages, pageBytes, memoryBytes, mostFrames, mostRegisters, mostRegions, stateBytes, statusAt, framesAt, outputCountAt, resultAt, headerEnd, ownersAt, marksAt, stackAt, frameBytes, stackEnd, memoryAt}
-use Rattle.rules.specs.State.{ownerPlace, markPlace, framePlace, registerPlace, mapPlace, functionPlace, instructionPlace, memoryPlace, frameFunction, frameInstruction, frameRegister, frameMap, pageOwner, pageMark, memoryByte, View, view}
+use Rattle.rules.specs.Limits.{pages, pageBytes, memoryBytes, mostFrames, mostRegisters, mostRegions, stateBytes, statusAt, framesAt, outputCountAt, resultAt, rangeAt, headerEnd, ownersAt, marksAt, stackAt, frameBytes, stackEnd, memoryAt}
+use Rattle.rules.specs.State.{stateRange, ownerPlace, markPlace, framePlace, registerPlace, mapPlace, functionPlace, instructionPlace, memoryPlace, frameFunction, frameInstruction, frameRegister, frameMap, pageOwner, pageMark, memoryByte, View, view}
+use Rattle.rules.specs.declared.PageRange.{PageRange}
 
 -- the bytes from lo up to hi agree
 abbrev pub Agree : Bytes → Bytes → ℕ → ℕ → Type 0
@@ -52,8 +53,14 @@ module _ (t s : Bytes) where
   pub outputCount-agree : Agree t s outputCountAt resultAt → number 2 t outputCountAt ≡ number 2 s outputCountAt
   outputCount-agree h = number-agree 2 t s outputCountAt (λ i a b. h i (omega arith) (omega arith))
 
-  pub result-agree : Agree t s resultAt headerEnd → number 4 t resultAt ≡ number 4 s resultAt
+  pub result-agree : Agree t s resultAt rangeAt → number 4 t resultAt ≡ number 4 s resultAt
   result-agree h = number-agree 4 t s resultAt (λ i a b. h i (omega arith) (omega arith))
+
+  pub range-agree : Agree t s rangeAt headerEnd → stateRange t ≡ stateRange s
+  range-agree h =
+      let a = h rangeAt (omega arith) (omega arith) in
+      let b = h (suc rangeAt) (omega arith) (omega arith) in
+      λ i. record { below = a i; above = b i }
 
   pub owner-agree : (p : ℕ) → (p < pages → byteAt t (ownerPlace p) ≡ byteAt s (ownerPlace p)) → pageOwner t p ≡ pageOwner s p
   unfolding pageOwner
@@ -129,10 +136,10 @@ memory-same t s h = fun-ext (λ x. memory-agree t s x (λ l. h (memoryPlace x) (
 -- ---- views
 
 -- views are equal by their parts
-pub view-eq : (u v : View) → u .status ≡ v .status → u .result ≡ v .result → u .frames ≡ v .frames → u .outputCount ≡ v .outputCount
+pub view-eq : (u v : View) → u .status ≡ v .status → u .result ≡ v .result → u .frames ≡ v .frames → u .outputCount ≡ v .outputCount → u .range ≡ v .range
     → u .fn ≡ v .fn → u .pc ≡ v .pc → u .reg ≡ v .reg → u .map ≡ v .map → u .owner ≡ v .owner → u .mark ≡ v .mark → u .memory ≡ v .memory → u ≡ v
-view-eq u v a b c d e f g h j k l =
-    λ i. record { status = a i; result = b i; frames = c i; outputCount = d i; fn = e i; pc = f i; reg = g i; map = h i; owner = j i; mark = k i; memory = l i }
+view-eq u v a b c d r e f g h j k l =
+    λ i. record { status = a i; result = b i; frames = c i; outputCount = d i; range = r i; fn = e i; pc = f i; reg = g i; map = h i; owner = j i; mark = k i; memory = l i }
 
 -- ---- one part of a view changed
 
@@ -142,6 +149,7 @@ withStatus x v = record {
   result = v .result;
   frames = v .frames;
   outputCount = v .outputCount;
+  range = v .range;
   fn = v .fn;
   pc = v .pc;
   reg = v .reg;
@@ -157,6 +165,7 @@ withResult x v = record {
   result = x;
   frames = v .frames;
   outputCount = v .outputCount;
+  range = v .range;
   fn = v .fn;
   pc = v .pc;
   reg = v .reg;
@@ -172,6 +181,7 @@ withFrames x v = record {
   result = v .result;
   frames = x;
   outputCount = v .outputCount;
+  range = v .range;
   fn = v .fn;
   pc = v .pc;
   reg = v .reg;
@@ -187,6 +197,23 @@ withOutputCount x v = record {
   result = v .result;
   frames = v .frames;
   outputCount = x;
+  range = v .range;
+  fn = v .fn;
+  pc = v .pc;
+  reg = v .reg;
+  map = v .map;
+  owner = v .owner;
+  mark = v .mark;
+  memory = v .memory;
+}
+
+abbrev pub withRange : PageRange → View → View
+withRange x v = record {
+  status = v .status;
+  result = v .result;
+  frames = v .frames;
+  outputCount = v .outputCount;
+  range = x;
   fn = v .fn;
   pc = v .pc;
   reg = v .reg;
@@ -202,6 +229,7 @@ withStack fn pc reg map v = record {
   result = v .result;
   frames = v .frames;
   outputCount = v .outputCount;
+  range = v .range;
   fn = fn;
   pc = pc;
   reg = reg;
@@ -217,6 +245,7 @@ withOwner f v = record {
   result = v .result;
   frames = v .frames;
   outputCount = v .outputCount;
+  range = v .range;
   fn = v .fn;
   pc = v .pc;
   reg = v .reg;
@@ -232,6 +261,7 @@ withMark f v = record {
   result = v .result;
   frames = v .frames;
   outputCount = v .outputCount;
+  range = v .range;
   fn = v .fn;
   pc = v .pc;
   reg = v .reg;
@@ -247,6 +277,7 @@ withMemory f v = record {
   result = v .result;
   frames = v .frames;
   outputCount = v .outputCount;
+  range = v .range;
   fn = v .fn;
   pc = v .pc;
   reg = v .reg;
@@ -265,7 +296,7 @@ module _ (t s : Bytes) where
       let f = stack-same t s (λ i a b. h i (inr (omega arith))) in
       view-eq (view t) (withStatus (byteAt t statusAt) (view s))
       refl (result-agree t s (λ i a b. h i (inr (omega arith))))
-      (frames-agree t s (λ i a b. h i (inr (omega arith)))) (outputCount-agree t s (λ i a b. h i (inr (omega arith))))
+      (frames-agree t s (λ i a b. h i (inr (omega arith)))) (outputCount-agree t s (λ i a b. h i (inr (omega arith)))) (range-agree t s (λ i a b. h i (inr (omega arith))))
       (f .fn) (f .pc) (f .reg) (f .map)
       (owners-same t s (λ i a b. h i (inr (omega arith)))) (marks-same t s (λ i a b. h i (inr (omega arith)))) (memory-same t s (λ i a b. h i (inr (omega arith))))
 
@@ -275,7 +306,7 @@ module _ (t s : Bytes) where
       let f = stack-same t s (λ i a b. h i (inr (omega arith))) in
       view-eq (view t) (withFrames (byteAt t framesAt) (view s))
       (status-agree t s (λ i a b. h i (inl (omega arith)))) (result-agree t s (λ i a b. h i (inr (omega arith))))
-      refl (outputCount-agree t s (λ i a b. h i (inr (omega arith))))
+      refl (outputCount-agree t s (λ i a b. h i (inr (omega arith)))) (range-agree t s (λ i a b. h i (inr (omega arith))))
       (f .fn) (f .pc) (f .reg) (f .map)
       (owners-same t s (λ i a b. h i (inr (omega arith)))) (marks-same t s (λ i a b. h i (inr (omega arith)))) (memory-same t s (λ i a b. h i (inr (omega arith))))
 
@@ -285,17 +316,17 @@ module _ (t s : Bytes) where
       let f = stack-same t s (λ i a b. h i (inr (omega arith))) in
       view-eq (view t) (withOutputCount (number 2 t outputCountAt) (view s))
       (status-agree t s (λ i a b. h i (inl (omega arith)))) (result-agree t s (λ i a b. h i (inr (omega arith))))
-      (frames-agree t s (λ i a b. h i (inl (omega arith)))) refl
+      (frames-agree t s (λ i a b. h i (inl (omega arith)))) refl (range-agree t s (λ i a b. h i (inr (omega arith))))
       (f .fn) (f .pc) (f .reg) (f .map)
       (owners-same t s (λ i a b. h i (inr (omega arith)))) (marks-same t s (λ i a b. h i (inr (omega arith)))) (memory-same t s (λ i a b. h i (inr (omega arith))))
 
-  pub result-area : Outside t s resultAt headerEnd → view t ≡ withResult (number 4 t resultAt) (view s)
+  pub result-area : Outside t s resultAt rangeAt → view t ≡ withResult (number 4 t resultAt) (view s)
   unfolding view
   result-area h =
       let f = stack-same t s (λ i a b. h i (inr (omega arith))) in
       view-eq (view t) (withResult (number 4 t resultAt) (view s))
       (status-agree t s (λ i a b. h i (inl (omega arith)))) refl
-      (frames-agree t s (λ i a b. h i (inl (omega arith)))) (outputCount-agree t s (λ i a b. h i (inl (omega arith))))
+      (frames-agree t s (λ i a b. h i (inl (omega arith)))) (outputCount-agree t s (λ i a b. h i (inl (omega arith)))) (range-agree t s (λ i a b. h i (inr (omega arith))))
       (f .fn) (f .pc) (f .reg) (f .map)
       (owners-same t s (λ i a b. h i (inr (omega arith)))) (marks-same t s (λ i a b. h i (inr (omega arith)))) (memory-same t s (λ i a b. h i (inr (omega arith))))
 
@@ -305,7 +336,7 @@ module _ (t s : Bytes) where
       let f = stack-same t s (λ i a b. h i (inr (omega arith))) in
       view-eq (view t) (withOwner (pageOwner t) (view s))
       (status-agree t s (λ i a b. h i (inl (omega arith)))) (result-agree t s (λ i a b. h i (inl (omega arith))))
-      (frames-agree t s (λ i a b. h i (inl (omega arith)))) (outputCount-agree t s (λ i a b. h i (inl (omega arith))))
+      (frames-agree t s (λ i a b. h i (inl (omega arith)))) (outputCount-agree t s (λ i a b. h i (inl (omega arith)))) (range-agree t s (λ i a b. h i (inl (omega arith))))
       (f .fn) (f .pc) (f .reg) (f .map)
       refl (marks-same t s (λ i a b. h i (inr (omega arith)))) (memory-same t s (λ i a b. h i (inr (omega arith))))
 
@@ -315,7 +346,7 @@ module _ (t s : Bytes) where
       let f = stack-same t s (λ i a b. h i (inr (omega arith))) in
       view-eq (view t) (withMark (pageMark t) (view s))
       (status-agree t s (λ i a b. h i (inl (omega arith)))) (result-agree t s (λ i a b. h i (inl (omega arith))))
-      (frames-agree t s (λ i a b. h i (inl (omega arith)))) (outputCount-agree t s (λ i a b. h i (inl (omega arith))))
+      (frames-agree t s (λ i a b. h i (inl (omega arith)))) (outputCount-agree t s (λ i a b. h i (inl (omega arith)))) (range-agree t s (λ i a b. h i (inl (omega arith))))
       (f .fn) (f .pc) (f .reg) (f .map)
       (owners-same t s (λ i a b. h i (inl (omega arith)))) refl (memory-same t s (λ i a b. h i (inr (omega arith))))
 
@@ -324,7 +355,7 @@ module _ (t s : Bytes) where
   stack-area h =
       view-eq (view t) (withStack (frameFunction t) (frameInstruction t) (frameRegister t) (frameMap t) (view s))
       (status-agree t s (λ i a b. h i (inl (omega arith)))) (result-agree t s (λ i a b. h i (inl (omega arith))))
-      (frames-agree t s (λ i a b. h i (inl (omega arith)))) (outputCount-agree t s (λ i a b. h i (inl (omega arith))))
+      (frames-agree t s (λ i a b. h i (inl (omega arith)))) (outputCount-agree t s (λ i a b. h i (inl (omega arith)))) (range-agree t s (λ i a b. h i (inl (omega arith))))
       refl refl refl refl
       (owners-same t s (λ i a b. h i (inl (omega arith)))) (marks-same t s (λ i a b. h i (inl (omega arith)))) (memory-same t s (λ i a b. h i (inr (omega arith))))
 
@@ -334,6 +365,16 @@ module _ (t s : Bytes) where
       let f = stack-same t s (λ i a b. h i (inl (omega arith))) in
       view-eq (view t) (withMemory (memoryByte t) (view s))
       (status-agree t s (λ i a b. h i (inl (omega arith)))) (result-agree t s (λ i a b. h i (inl (omega arith))))
-      (frames-agree t s (λ i a b. h i (inl (omega arith)))) (outputCount-agree t s (λ i a b. h i (inl (omega arith))))
+      (frames-agree t s (λ i a b. h i (inl (omega arith)))) (outputCount-agree t s (λ i a b. h i (inl (omega arith)))) (range-agree t s (λ i a b. h i (inl (omega arith))))
       (f .fn) (f .pc) (f .reg) (f .map)
       (owners-same t s (λ i a b. h i (inl (omega arith)))) (marks-same t s (λ i a b. h i (inl (omega arith)))) refl
+
+  pub range-area : Outside t s rangeAt headerEnd → view t ≡ withRange (stateRange t) (view s)
+  unfolding view
+  range-area h =
+      let f = stack-same t s (λ i a b. h i (inr (omega arith))) in
+      view-eq (view t) (withRange (stateRange t) (view s))
+      (status-agree t s (λ i a b. h i (inl (omega arith)))) (result-agree t s (λ i a b. h i (inl (omega arith))))
+      (frames-agree t s (λ i a b. h i (inl (omega arith)))) (outputCount-agree t s (λ i a b. h i (inl (omega arith)))) refl
+      (f .fn) (f .pc) (f .reg) (f .map)
+      (owners-same t s (λ i a b. h i (inr (omega arith)))) (marks-same t s (λ i a b. h i (inr (omega arith)))) (memory-same t s (λ i a b. h i (inr (omega arith))))

@@ -1,12 +1,14 @@
 -- How the code's readers and writers meet the definitions: a field at a place that the code computed. Assumes nothing.
 use mathlib.Core.Path.{_≡_, sym, ap, _∙_}
-use Prim.Native.Nat.{ℕ, _%_, _<_}
-use lib.ListN.{length, replicate, length-replicate}
+use mathlib.Core.List.{[], _∷_}
+use Prim.Native.Nat.{ℕ, suc, _%_, _<_}
+use lib.ListN.{length, replicate, length-replicate, set}
 use Rattle.words.specs.Bytes.{Bytes, byteAt, little, splice, put, fill}
-use Rattle.words.specs.ByteLaws.{splice-whole}
+use Rattle.words.specs.ByteLaws.{splice-whole, splice-one, splice-cons}
 use Rattle.words.specs.Bits.{bit, withBit}
-use Rattle.rules.specs.Limits.{pages, pageBytes}
-use Rattle.rules.specs.State.{markPlace, pageMark, putMark}
+use Rattle.rules.specs.Limits.{pages, pageBytes, rangeAt}
+use Rattle.rules.specs.State.{markPlace, pageMark, putMark, putRange}
+use Rattle.rules.specs.declared.PageRange.{PageRange}
 use Rattle.state.specs.Puts.{after}
 use Rattle.state.specs.Reads.{mark-is}
 
@@ -30,3 +32,7 @@ mark-read s c i p j d e h l = ap (λ (x : ℕ). bit x (j % 8)) (d ∙ ap (λ (k 
 pub mark-written : (s : Bytes) (i p j b x : ℕ) → i ≡ markPlace p j → x ≡ withBit (byteAt s i) (j % 8) b → put 1 s i x ≡ after (putMark s p j b) s
 mark-written s i p j b x e d =
     put-at 1 s i (markPlace p j) x e ∙ ap (λ (y : ℕ). splice s (markPlace p j) (little 1 y)) (d ∙ ap (λ (k : ℕ). withBit (byteAt s k) (j % 8) b) e)
+
+-- the range, byte by byte
+pub range-written : (R : PageRange) (s : Bytes) → set (set s (suc rangeAt) (R .above)) rangeAt (R .below) ≡ after (putRange R) s
+range-written R s = ap (λ (l : Bytes). set l rangeAt (R .below)) (sym (splice-one s (suc rangeAt) (R .above))) ∙ sym (splice-cons s rangeAt (R .below) (R .above ∷ []))

@@ -1,5 +1,5 @@
 -- Document 01, "Opening makes one such frame, function 0 at instruction 0 with the arguments": the fresh machine as the code writes it, register
--- by register and region by region, is rules' `firstState`. Assumes nothing.
+-- by register and region by region, is rules' `firstAt`. Assumes nothing.
 use mathlib.Core.Path.{_≡_, sym, ap, ap₂, _∙_}
 use mathlib.Core.Bool.{cond}
 use mathlib.Core.Logic.{⊎-elim}
@@ -12,9 +12,10 @@ use Rattle.words.specs.Bytes.{Bytes, number, fill}
 use Rattle.words.specs.Choose.{lt-or-le, cond-lt, cond-nlt}
 use Rattle.rules.specs.Limits.{stateBytes, mostRegisters, mostRegions}
 use Rattle.rules.specs.Module.{Module}
-use Rattle.rules.specs.State.{framePlace, written, putFrames, putFrame, putRegister}
+use Rattle.rules.specs.State.{framePlace, written, putRange, putFrames, putFrame, putRegister}
 use Rattle.rules.specs.Step.{lowestNumbers}
-use Rattle.rules.specs.Host.{firstRegister, firstState}
+use Rattle.rules.specs.Host.{firstRegister, firstAt}
+use Rattle.rules.specs.declared.PageRange.{PageRange}
 use Rattle.state.specs.Apply.{nothing}
 use Rattle.state.specs.Puts.{after}
 use Rattle.state.specs.Fields.{fill-whole}
@@ -55,13 +56,13 @@ regions-first n i = overlaid-first itself n i ∙ ⊎-elim
     (λ h. cond-nlt i 0 h ∙ sym (numbers-past n [] i h))
     (lt-or-le i n)
 
--- cleared, one frame, function 0's without map and registers; then its arguments, then its local regions
-pub fresh-made : (m : Module) (s a b c d t xs : Bytes) (p n : ℕ) → length s ≡ stateBytes → p ≤ mostRegisters → n ≤ mostRegions
+-- cleared, its range, one frame, function 0's without map and registers; then its arguments, then its local regions
+pub fresh-made : (R : PageRange) (m : Module) (s z a b c d t xs : Bytes) (p n : ℕ) → length s ≡ stateBytes → p ≤ mostRegisters → n ≤ mostRegions
     → p ≡ m .function 0 .params → n ≡ m .function 0 .locals
-    → a ≡ fill stateBytes s 0 0 → b ≡ after (putFrames 1) a → c ≡ after (putFrame 0 0 nothing nothing) b
-    → d ≡ putRegisters 0 (argumentsOf xs) p c → t ≡ putRegions 0 0 itself n d → t ≡ firstState m xs
-unfolding firstState written
-fresh-made m s a b c d t xs p n size few small ep en ea eb ec ed et =
+    → z ≡ fill stateBytes s 0 0 → a ≡ after (putRange R) z → b ≡ after (putFrames 1) a → c ≡ after (putFrame 0 0 nothing nothing) b
+    → d ≡ putRegisters 0 (argumentsOf xs) p c → t ≡ putRegions 0 0 itself n d → t ≡ firstAt R m xs
+unfolding firstAt written
+fresh-made R m s z a b c d t xs p n size few small ep en ez ea eb ec ed et =
     et
     ∙ ap (putRegions 0 0 itself n) (ed ∙ ap (putRegisters 0 (argumentsOf xs) p) ec ∙ registers-frame b 0 0 nothing nothing (argumentsOf xs) p few)
     ∙ regions-frame b 0 0 nothing (overlaid nothing 0 (argumentsOf xs) p) 0 itself n (omega arith) (λ i l. omega arith)
@@ -69,4 +70,4 @@ fresh-made m s a b c d t xs p n size few small ep en ea eb ec ed et =
     (frameOf-agree 0 (overlaid nothing 0 itself n) (λ i. getD (lowestNumbers (m .function 0 .locals) []) i 0) (overlaid nothing 0 (argumentsOf xs) p) (firstRegister m xs)
     (λ i l. regions-first n i ∙ ap (λ (k : ℕ). getD (lowestNumbers k []) i 0) en) (λ i l. registers-first m xs ep i))
     ∙ ap (after (putFrame 0 0 (λ i. getD (lowestNumbers (m .function 0 .locals) []) i 0) (firstRegister m xs)))
-    (eb ∙ ap (after (putFrames 1)) (ea ∙ fill-whole stateBytes s (sym size) ∙ ap (λ (k : ℕ). replicate k 0) size))
+    (eb ∙ ap (after (putFrames 1)) (ea ∙ ap (after (putRange R)) (ez ∙ fill-whole stateBytes s (sym size) ∙ ap (λ (k : ℕ). replicate k 0) size)))

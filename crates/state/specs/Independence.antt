@@ -22,7 +22,7 @@ use Rattle.rules.specs.SafeStep.{SameButPages, Reads, Changes}
 use Rattle.state.specs.Update.{stored-apart, cleared-in, cleared-out, memoryNumber-agree}
 use Rattle.state.specs.Touched.{clear-of, byTake, byGrant}
 use Rattle.state.specs.Apply.{apply}
-use Rattle.state.specs.Areas.{view-eq, memory-agree, stack-same, owners-same, marks-same, status-agree, frames-agree, outputCount-agree, result-agree, withMemory}
+use Rattle.state.specs.Areas.{range-agree, view-eq, memory-agree, stack-same, owners-same, marks-same, status-agree, frames-agree, outputCount-agree, result-agree, withMemory}
 use Rattle.state.specs.Puts.{after}
 use Rattle.state.specs.Effects.{Bounded, view-apply}
 use Rattle.state.specs.Reads.{memory-is}
@@ -73,7 +73,7 @@ view-pages s t h =
     let f = stack-same s t (λ i a b. low i (omega arith)) in
     view-eq (view s) (withMemory (memoryByte s) (view t))
     (status-agree s t (λ i a b. low i (omega arith))) (result-agree s t (λ i a b. low i (omega arith)))
-    (frames-agree s t (λ i a b. low i (omega arith))) (outputCount-agree s t (λ i a b. low i (omega arith)))
+    (frames-agree s t (λ i a b. low i (omega arith))) (outputCount-agree s t (λ i a b. low i (omega arith))) (range-agree s t (λ i a b. low i (omega arith)))
     (f .fn) (f .pc) (f .reg) (f .map)
     (owners-same s t (λ i a b. low i (omega arith))) (marks-same s t (λ i a b. low i (omega arith))) refl
 

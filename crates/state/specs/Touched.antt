@@ -1,4 +1,4 @@
--- Which effect it is that loads or clears a page byte: the footprint read backwards. For proofs only. Assumes nothing.
+-- Which effect it is that loads, stores or clears a page byte: the footprint read backwards. For proofs only. Assumes nothing.
 use mathlib.Core.Path.{_≡_, refl}
 use Prim.Native.Nat.{ℕ, _+_, _*_, _<_, _≤_}
 use native.Mathlib.Omega.{arith}
@@ -30,6 +30,31 @@ load-of (pop c a x) i h = absurd (omega (arith, h))
 load-of (finish x) i h = absurd (omega (arith, h))
 load-of (stop n) i h = absurd (omega (arith, h))
 load-of stuck i h = absurd (omega (arith, h))
+
+-- a store that writes address i
+pub record Stores (e : Effect) (i : ℕ) : Type 0 where
+  pub through : ℕ
+  pub address : ℕ
+  pub bytes : ℕ
+  pub number : ℕ
+  pub is : e ≡ save through address bytes number
+  pub low : address ≤ i
+  pub high : i < address + bytes
+
+pub store-of : (e : Effect) (i : ℕ) → Within (footprint e .stores) i → Stores e i
+store-of (assign a x) i h = absurd (omega (arith, h))
+store-of (fetch b a x w) i h = absurd (omega (arith, h))
+store-of (save b x w y) i h = record { through = b; address = x; bytes = w; number = y; is = refl; low = h .0; high = h .1 }
+store-of (takePlace p j n a) i h = absurd (omega (arith, h))
+store-of (grantPage p r a) i h = absurd (omega (arith, h))
+store-of (freePlace p j) i h = absurd (omega (arith, h))
+store-of (goTo d) i h = absurd (omega (arith, h))
+store-of (emit x) i h = absurd (omega (arith, h))
+store-of (push g μ ρ) i h = absurd (omega (arith, h))
+store-of (pop c a x) i h = absurd (omega (arith, h))
+store-of (finish x) i h = absurd (omega (arith, h))
+store-of (stop n) i h = absurd (omega (arith, h))
+store-of stuck i h = absurd (omega (arith, h))
 
 -- an object handed out, or a page granted, that has address i
 pub data Clears (e : Effect) (i : ℕ) : Type 0 where

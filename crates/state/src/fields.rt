@@ -6,7 +6,7 @@ ghost use lib.ListN.{length};
 ghost use Rattle.words.specs.Widths.{widthOf};
 ghost use Rattle.words.specs.First.{first};
 ghost use Rattle.rules.specs.Limits.{stateBytes, pages, pageBytes, memoryBytes, mostFrames, mostRegisters, mostRegions};
-ghost use Rattle.rules.specs.State.{view, frameFunction, frameInstruction, frameRegister, frameMap, pageOwner, pageMark, memoryNumber, putStatus, putFrames, putOutputCount, putResult, putOwner, putMark, clearMarks, clearMemory, putMemory, putRegister, putInstruction, putFrame, clearFrame};
+ghost use Rattle.rules.specs.State.{view, frameFunction, frameInstruction, frameRegister, frameMap, pageOwner, pageMark, memoryNumber, putStatus, putFrames, putOutputCount, putResult, putRange, putOwner, putMark, clearMarks, clearMemory, putMemory, putRegister, putInstruction, putFrame, clearFrame};
 ghost use Rattle.state.specs.Apply.{nothing};
 ghost use Rattle.state.specs.Puts.{after};
 ghost use Rattle.state.specs.NewFrame.{putRegion};
@@ -23,6 +23,7 @@ use crate::places::marks_place;
 use crate::places::memory_place;
 use crate::places::owner_place;
 use crate::places::register_place;
+use rules::PageRange;
 use words::bit_clear;
 use words::bit_of;
 use words::bit_set;
@@ -49,6 +50,16 @@ pub fn frames(s: &[u8]) -> u8
     ensures { λ r. ⌜ r ≡ view (now (s .entry)) .frames ⌝ }
 {
     s[Machine::FRAMES_AT]
+}
+
+pub fn range(s: &[u8]) -> PageRange
+    requires { ⌜ length (now s) ≡ stateBytes ⌝ }
+    ensures { λ r. ⌜ r ≡ view (now (s .entry)) .range ⌝ }
+{
+    PageRange {
+        below: s[Machine::RANGE_AT],
+        above: s[Machine::RANGE_AT + 1],
+    }
 }
 
 pub fn output_count(s: &[u8]) -> u32
@@ -141,6 +152,14 @@ pub fn put_result(s: &mut [u8], x: u32)
     ensures { λ _. ⌜ now (s .exit) ≡ after (putResult x) (now (s .entry)) ⌝ }
 {
     put_word(s, Machine::RESULT_AT, x);
+}
+
+pub fn put_range(s: &mut [u8], range: PageRange)
+    requires { ⌜ length (now s) ≡ stateBytes ⌝ }
+    ensures { λ _. ⌜ now (s .exit) ≡ after (putRange range) (now (s .entry)) ⌝ }
+{
+    s[Machine::RANGE_AT + 1] = range.above;
+    s[Machine::RANGE_AT] = range.below;
 }
 
 pub fn put_owner(s: &mut [u8], p: u32, x: u8)

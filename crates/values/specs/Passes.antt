@@ -31,7 +31,7 @@ whole h =
       frames = h .0 .0 .frames;
       contents =
           record {
-            page0 = h .0 .0 .pages .page0;
+            inRange = h .0 .0 .pages .inRange;
             owners = h .0 .0 .pages .owners;
             marks = h .0 .0 .pages .marks;
             registers = h .0 .1 .each;
@@ -56,7 +56,7 @@ parts p = (
     record {
       header = record { size = p .size; status = p .status; output = p .output };
       frames = p .frames;
-      pages = record { page0 = p .contents .page0; owners = p .contents .owners; marks = p .contents .marks };
+      pages = record { inRange = p .contents .inRange; owners = p .contents .owners; marks = p .contents .marks };
       spare =
           record {
             functions = p .spare .functions;

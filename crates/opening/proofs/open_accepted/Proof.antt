@@ -15,10 +15,10 @@ mul-if1 : tie.Need-mul-if1
 mul-if1 c = search needs
 
 returns : tie.Need-returns
-returns c = opened-refused refl (open-arguments _ _ _ (c .before .before .before .before .before .before .pre) (params-are _ (c .before .before .head-of .ensures) (c .before .parameters-of .ensures)) (c .if1 .taken))
+returns c = opened-refused refl (open-arguments _ _ _ _ (c .before .before .before .before .before .before .pre) (params-are _ (c .before .before .head-of .ensures) (c .before .parameters-of .ensures)) (c .if1 .taken))
 
 returns-2 : tie.Need-returns-2
-returns-2 c = opened-refused refl (open-length _ _ _ (c .before .before .before .before .before .before .before .pre) (params-are _ (c .before .before .before .head-of .ensures) (c .before .before .parameters-of .ensures)) (c .before .if1 .left) (c .if2 .taken))
+returns-2 c = opened-refused refl (open-length _ _ _ _ (c .before .before .before .before .before .before .before .pre) (params-are _ (c .before .before .before .head-of .ensures) (c .before .before .parameters-of .ensures)) (c .before .if1 .left) (c .if2 .taken))
 
 wide-requires : tie.Need-wide-requires
 wide-requires c κs = search needs
@@ -38,7 +38,7 @@ returns-3 c =
     let params = params-are _ (c .before .before .before .before .before .before .before .before .head-of .ensures) (c .before .before .before .before .before .before .before .parameters-of .ensures) in
     let locals = locals-are _ (c .before .before .before .before .before .before .before .before .head-of .ensures) (c .before .before .before .wide .ensures .0) in
     opened-made (c .before .before .fresh .ensures _ params locals)
-    (open-opened _ _ _ (c .before .before .before .before .before .before .before .before .before .before .before .before .pre) params (c .before .before .before .before .before .before .if1 .left) (c .before .before .before .before .before .if2 .left))
+    (open-opened _ _ _ _ (c .before .before .before .before .before .before .before .before .before .before .before .before .pre) params (c .before .before .before .before .before .before .if1 .left) (c .before .before .before .before .before .if2 .left))
 
 pub open-accepted-spec : {M : Type 1} → statement M
 open-accepted-spec =

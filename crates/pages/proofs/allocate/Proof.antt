@@ -1,30 +1,79 @@
--- `pages::allocate` meets its contract: the answers of the searches decide the definition's tests.
+-- `pages::allocate` meets its contract: the answers of the searches through the pages of the range decide the definition's tests.
 use Prim.{tt}
-use Rattle.rules.specs.Limits.{firstPage, pastPage}
-use Rattle.rules.specs.State.{view, pageOwner, pageMark}
-use Rattle.pages.specs.Meaning.{place-chosen, page-chosen, nothing-chosen}
+use mathlib.Core.Path.{ap, ap₂, _∙_}
+use Prim.Native.Nat.{ℕ}
+use native.Mathlib.Omega.{arith}
+use Rattle.rules.specs.State.{lowPage, endPage, view, pageOwner, pageMark}
+use Rattle.pages.specs.Meaning.{chosen, place-chosen, page-chosen, nothing-chosen}
+use Rattle.pages.specs.declared.Chosen.{Chosen}
 use borrow.Author.Needs.{needs}
 use Rattle.pages.proofs.allocate.Statement.{statement}
 use Rattle.pages.proofs.allocate.Tie as tie
+
+range-requires : tie.Need-range-requires
+range-requires c κs = search needs
+
+low-page-requires : tie.Need-low-page-requires
+low-page-requires c κs = search needs
+
+end-page-requires : tie.Need-end-page-requires
+end-page-requires c κs = search needs
 
 find-room-requires : tie.Need-find-room-requires
 find-room-requires c κs = search needs
 
 returns : tie.Need-returns
 unfolding view
-returns c = (place-chosen (pageOwner (c .before .before .before .before .args .s .now)) (pageMark (c .before .before .before .before .args .s .now)) firstPage pastPage (c .before .before .before .before .args .r .0) (c .before .before .before .before .args .n) (c .before .find-room .result .page) (c .before .find-room .ensures .0 .page) (c .if1 .taken) (c .before .find-room .result .place) (c .before .find-room .ensures .0 .place (c .if1 .taken)), (c .if1 .taken, c .before .find-room .ensures .0 .inside (c .if1 .taken)), c .before .find-room .ensures .1)
+returns c =
+    let start = c .before .before .before .before .before .before .before in
+    let s = start .args .s .now in
+    let low = c .before .before .before .before .low-page .ensures ∙ ap lowPage (c .before .before .before .before .before .range .ensures) in
+    let end = c .before .before .before .end-page .ensures .0 ∙ ap endPage (c .before .before .before .before .before .range .ensures) in
+    let past = c .before .before .before .end-page .ensures .1 in
+    let room = c .before .find-room in
+    let at : ℕ → ℕ → Chosen = λ lo hi. chosen (pageOwner s) (pageMark s) lo hi (start .args .r .0) (start .args .n) in
+    let there = c .if1 .taken in (
+      place-chosen (pageOwner s) (pageMark s) _ _ (start .args .r .0) (start .args .n) (room .result .page) (room .ensures .0 .page) there (room .result .place) (room .ensures .0 .place there) ∙ ap₂ at low end,
+      (omega arith, room .ensures .0 .inside there),
+      room .ensures .1,
+    )
 
 unowned-page-requires : tie.Need-unowned-page-requires
 unowned-page-requires c κs = search needs
 
 returns-2 : tie.Need-returns-2
 unfolding view
-returns-2 c = (page-chosen (pageOwner (c .before .before .before .before .before .before .args .s .now)) (pageMark (c .before .before .before .before .before .before .args .s .now)) firstPage pastPage (c .before .before .before .before .before .before .args .r .0) (c .before .before .before .before .before .before .args .n) (c .before .before .before .find-room .result .page) (c .before .before .before .find-room .ensures .0 .page) (c .before .before .if1 .left) (c .before .unowned-page .result) (c .before .unowned-page .ensures) (c .if2 .taken), c .if2 .taken, c .before .before .before .find-room .ensures .1)
+returns-2 c =
+    let start = c .before .before .before .before .before .before .before .before .before in
+    let s = start .args .s .now in
+    let low = c .before .before .before .before .before .before .low-page .ensures ∙ ap lowPage (c .before .before .before .before .before .before .before .range .ensures) in
+    let end = c .before .before .before .before .before .end-page .ensures .0 ∙ ap endPage (c .before .before .before .before .before .before .before .range .ensures) in
+    let past = c .before .before .before .before .before .end-page .ensures .1 in
+    let room = c .before .before .before .find-room in
+    let at : ℕ → ℕ → Chosen = λ lo hi. chosen (pageOwner s) (pageMark s) lo hi (start .args .r .0) (start .args .n) in
+    let free = c .before .unowned-page in
+    let there = c .if2 .taken in (
+      page-chosen (pageOwner s) (pageMark s) _ _ (start .args .r .0) (start .args .n) (room .result .page) (room .ensures .0 .page) (c .before .before .if1 .left) (free .result) (free .ensures) there ∙ ap₂ at low end,
+      omega arith,
+      room .ensures .1,
+    )
 
 returns-3 : tie.Need-returns-3
 unfolding view
-returns-3 c = (nothing-chosen (pageOwner (c .before .before .before .before .before .before .args .s .now)) (pageMark (c .before .before .before .before .before .before .args .s .now)) firstPage pastPage (c .before .before .before .before .before .before .args .r .0) (c .before .before .before .before .before .before .args .n) (c .before .before .before .find-room .result .page) (c .before .before .before .find-room .ensures .0 .page) (c .before .before .if1 .left) (c .before .unowned-page .result) (c .before .unowned-page .ensures) (c .if2 .left), tt, c .before .before .before .find-room .ensures .1)
+returns-3 c =
+    let start = c .before .before .before .before .before .before .before .before .before in
+    let s = start .args .s .now in
+    let low = c .before .before .before .before .before .before .low-page .ensures ∙ ap lowPage (c .before .before .before .before .before .before .before .range .ensures) in
+    let end = c .before .before .before .before .before .end-page .ensures .0 ∙ ap endPage (c .before .before .before .before .before .before .before .range .ensures) in
+    let room = c .before .before .before .find-room in
+    let at : ℕ → ℕ → Chosen = λ lo hi. chosen (pageOwner s) (pageMark s) lo hi (start .args .r .0) (start .args .n) in
+    let free = c .before .unowned-page in (
+      nothing-chosen (pageOwner s) (pageMark s) _ _ (start .args .r .0) (start .args .n) (room .result .page) (room .ensures .0 .page) (c .before .before .if1 .left) (free .result) (free .ensures) (c .if2 .left) ∙ ap₂ at low end,
+      tt,
+      room .ensures .1,
+    )
 
 pub allocate-spec : {M : Type 1} → statement M
 allocate-spec =
-    tie.close (tie.spec find-room-requires returns unowned-page-requires returns-2 returns-3)
+    tie.close
+    (tie.spec range-requires low-page-requires end-page-requires find-room-requires returns unowned-page-requires returns-2 returns-3)

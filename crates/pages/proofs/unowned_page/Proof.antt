@@ -12,7 +12,7 @@ use Rattle.pages.proofs.unowned_page.Statement.{statement}
 use Rattle.pages.proofs.unowned_page.Tie as tie
 
 abbrev Inv-loop : tie.InvT-loop
-Inv-loop s low past q₀ q = (low ≤ q) × (q ≤ past) × ((j : ℕ) → low ≤ j → j < q → not (eqb (pageOwner s j) 0) ≡ true)
+Inv-loop s low past q₀ q = (low ≤ q) × (q - low ≤ past - low) × ((j : ℕ) → low ≤ j → j < q → not (eqb (pageOwner s j) 0) ≡ true)
 
 abbrev μ-loop : tie.MeasureT-loop
 μ-loop s low past q₀ q = past - q

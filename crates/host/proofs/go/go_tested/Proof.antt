@@ -15,7 +15,7 @@ status-requires : tie.Need-status-requires
 status-requires c κs = search needs
 
 go-running-requires : tie.Need-go-running-requires
-go-running-requires c κs = (c .before .before .before .before .before .before .before .before .tables-of .ensures, (tested _ _ (c .before .before .before .before .before .before .passes .ensures) (c .before .before .before .before .before .if1 .taken), (sym (c .before .before .before .status .ensures) ∙ c .before .before .if2 .taken, c .before .before .before .before .before .before .before .before .before .before .before .before .before .pre .1 .0, c .before .before .before .before .before .before .before .before .before .before .before .before .before .pre .1 .2)))
+go-running-requires c κs = (c .before .before .before .before .before .before .before .before .tables-of .ensures, (tested _ _ _ (c .before .before .before .before .before .before .passes .ensures) (c .before .before .before .before .before .if1 .taken), (sym (c .before .before .before .status .ensures) ∙ c .before .before .if2 .taken, c .before .before .before .before .before .before .before .before .before .before .before .before .before .pre .1 .0, c .before .before .before .before .before .before .before .before .before .before .before .before .before .pre .1 .2)))
 
 same-length : tie.Need-same-length
 same-length c = search needs
@@ -30,13 +30,13 @@ same-length-3 : tie.Need-same-length-3
 same-length-3 c = search needs
 
 returns-2 : tie.Need-returns-2
-returns-2 c = went-refused refl refl (go-over _ _ _ _ _ (c .before .before .before .before .before .before .before .before .before .before .before .pre .0) (c .before .before .before .before .before .before .before .before .before .before .before .pre .1 .0) (c .before .before .before .before .before .before .before .before .before .before .before .pre .1 .1) (c .before .before .before .before .before .before .before .before .before .before .before .pre .1 .2) (c .before .before .before .before .passes .ensures) (c .before .before .before .if1 .taken) (c .before .status .ensures) (c .if2 .left))
+returns-2 c = went-refused refl refl (go-over _ _ _ _ _ _ (c .before .before .before .before .before .before .before .before .before .before .before .pre .0) (c .before .before .before .before .before .before .before .before .before .before .before .pre .1 .0) (c .before .before .before .before .before .before .before .before .before .before .before .pre .1 .1) (c .before .before .before .before .before .before .before .before .before .before .before .pre .1 .2) (c .before .before .before .before .passes .ensures) (c .before .before .before .if1 .taken) (c .before .status .ensures) (c .if2 .left))
 
 same-length-4 : tie.Need-same-length-4
 same-length-4 c = search needs
 
 returns-3 : tie.Need-returns-3
-returns-3 c = went-refused refl refl (go-failed _ _ _ _ _ (c .before .before .before .before .before .before .before .before .pre .0) (c .before .before .before .before .before .before .before .before .pre .1 .0) (c .before .before .before .before .before .before .before .before .pre .1 .1) (c .before .before .before .before .before .before .before .before .pre .1 .2) (c .before .passes .ensures) (c .if1 .left))
+returns-3 c = went-refused refl refl (go-failed _ _ _ _ _ _ (c .before .before .before .before .before .before .before .before .pre .0) (c .before .before .before .before .before .before .before .before .pre .1 .0) (c .before .before .before .before .before .before .before .before .pre .1 .1) (c .before .before .before .before .before .before .before .before .pre .1 .2) (c .before .passes .ensures) (c .if1 .left))
 
 pub go-tested-spec : {M : Type 1} → statement M
 go-tested-spec =

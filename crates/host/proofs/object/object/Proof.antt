@@ -1,29 +1,16 @@
--- `host::object::object` meets its contract: the verdict first.
-use Rattle.guarantees.specs.Accepted.{says-accepted}
-use Rattle.host.specs.Reading.{object-refused}
+-- `host::object::object` meets its contract: that of `object_at` with all pages.
 use borrow.Author.Needs.{needs}
 use Rattle.host.proofs.object.object.Statement.{statement}
 use Rattle.host.proofs.object.object.Tie as tie
 
-verdict-requires : tie.Need-verdict-requires
-verdict-requires c κs = search needs
+all-pages-requires : tie.Need-all-pages-requires
+all-pages-requires c κs = search needs
 
-enum-told : tie.Need-enum-told
-enum-told c = search needs
-
-object-accepted-requires : tie.Need-object-accepted-requires
-object-accepted-requires c κs = says-accepted _ (c .before .before .verdict .ensures) (c .enum-told .given .1)
-
-enum-told-2 : tie.Need-enum-told-2
-enum-told-2 c = search needs
+object-at-requires : tie.Need-object-at-requires
+object-at-requires c κs = search needs
 
 returns : tie.Need-returns
-returns c = search needs
-
-returns-2 : tie.Need-returns-2
-returns-2 c = object-refused _ _ _ (c .before .before .verdict .ensures) (c .enum-told2 .given .1)
+returns c = rw (c .before .all-pages .ensures) at (c .object-at .ensures)
 
 pub object-spec : {M : Type 1} → statement M
-object-spec =
-    tie.close
-    (tie.spec verdict-requires enum-told object-accepted-requires enum-told-2 returns returns-2)
+object-spec = tie.close (tie.spec all-pages-requires object-at-requires returns)

@@ -17,10 +17,10 @@ object-requires : tie.Need-object-requires
 object-requires c κs = search needs
 
 returns : tie.Need-returns
-returns c = object-read _ _ _ (c .before .before .before .before .before .before .before .before .before .before .pre) (c .before .before .before .before .before .before .passes .ensures) (c .before .before .before .before .before .if1 .taken) (c .object .ensures)
+returns c = object-read _ _ _ _ (c .before .before .before .before .before .before .before .before .before .before .pre) (c .before .before .before .before .before .before .passes .ensures) (c .before .before .before .before .before .if1 .taken) (c .object .ensures)
 
 returns-2 : tie.Need-returns-2
-returns-2 c = object-failed _ _ _ (c .before .before .before .before .before .pre) (c .before .passes .ensures) (c .if1 .left)
+returns-2 c = object-failed _ _ _ _ (c .before .before .before .before .before .pre) (c .before .passes .ensures) (c .if1 .left)
 
 pub object-accepted-spec : {M : Type 1} → statement M
 object-accepted-spec =

@@ -1,29 +1,16 @@
--- `host::test::state_test` meets its contract: the verdict first.
-use Rattle.guarantees.specs.Accepted.{says-accepted}
-use Rattle.host.specs.Testing.{test-refused}
+-- `host::test::state_test` meets its contract: that of `state_test_at` with all pages.
 use borrow.Author.Needs.{needs}
 use Rattle.host.proofs.test.state_test.Statement.{statement}
 use Rattle.host.proofs.test.state_test.Tie as tie
 
-verdict-requires : tie.Need-verdict-requires
-verdict-requires c κs = search needs
+all-pages-requires : tie.Need-all-pages-requires
+all-pages-requires c κs = search needs
 
-enum-told : tie.Need-enum-told
-enum-told c = search needs
-
-test-accepted-requires : tie.Need-test-accepted-requires
-test-accepted-requires c κs = says-accepted _ (c .before .before .verdict .ensures) (c .enum-told .given .1)
-
-enum-known-v : tie.Need-enum-known-v
-enum-known-v c = search needs
+state-test-at-requires : tie.Need-state-test-at-requires
+state-test-at-requires c κs = search needs
 
 returns : tie.Need-returns
-returns c = search needs
-
-returns-2 : tie.Need-returns-2
-returns-2 c = test-refused _ _ (c .before .before .before .verdict .ensures) (c .before .v .given .1)
+returns c = rw (c .before .all-pages .ensures) at (c .state-test-at .ensures)
 
 pub state-test-spec : {M : Type 1} → statement M
-state-test-spec =
-    tie.close
-    (tie.spec verdict-requires enum-told test-accepted-requires enum-known-v returns returns-2)
+state-test-spec = tie.close (tie.spec all-pages-requires state-test-at-requires returns)

@@ -8,10 +8,10 @@ use Rattle.shape.proofs.pages.all_pages.Statement.{statement}
 use Rattle.shape.proofs.pages.all_pages.Tie as tie
 
 abbrev Inv-loop : tie.InvT-loop
-Inv-loop f starts functions s n p₀ p = (p ≤ 64) × ((z : ℕ) → z < p → PageOk f s n z)
+Inv-loop f starts functions s n low past p₀ p = (p ≤ 64) × ((z : ℕ) → z < p → PageOk f s n low past z)
 
 abbrev μ-loop : tie.MeasureT-loop
-μ-loop f starts functions s n p₀ p = 64 - p
+μ-loop f starts functions s n low past p₀ p = 64 - p
 
 loop-holds : tie.Need-loop-holds Inv-loop μ-loop
 loop-holds c = (omega arith, scan-none _)
