@@ -111,13 +111,17 @@ static void refusals(struct buffer file, struct buffer form, struct buffer state
     struct buffer short_output = { output.bytes, output.length - 1 };
     struct buffer short_state = { state.bytes, state.length - 1 };
     struct buffer bad_state = copy_of(state);
-    bad_state.bytes[8] = 1; /* a spare byte */
+    struct buffer other_state = copy_of(state);
+    bad_state.bytes[63] = 1; /* a spare byte */
+    other_state.bytes[9] = 1; /* not all pages */
     refused(file, long_form, state, output, 9, "a form of 4,097 bytes");
     refused(file, form, state, short_output, 20, "an output of 4,095 bytes");
     refused(file, form, short_state, output, 20, "a state of 24,575 bytes");
     refused(file, form, bad_state, output, 21, "a spare byte that is set");
+    refused(file, form, other_state, output, 21, "a state of a machine with fewer pages");
     free(long_form.bytes);
     free(bad_state.bytes);
+    free(other_state.bytes);
 }
 
 /* Each address is in the part that the reader gives for it, or in none; the part lies in the pages. */

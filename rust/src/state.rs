@@ -1,5 +1,5 @@
 //! The state of a machine and its 24,576 bytes. What does not depend on a module is tested when
-//! the bytes are read: spare bytes and ranges.
+//! the bytes are read: spare bytes and ranges, that of its pages among them.
 
 use crate::module::{MAX_REGIONS, MAX_REGISTERS};
 use crate::types::Live;
@@ -23,7 +23,10 @@ const STATUS_AT: usize = 0;
 const FRAME_COUNT_AT: usize = 1;
 const OUTPUT_COUNT_AT: usize = 2;
 const RESULT_AT: usize = 4;
-pub const HEADER_END: usize = 8;
+/// How many pages below and above its own the machine may not own: none. A state with other
+/// numbers is another machine's.
+const RANGE_AT: usize = 8;
+pub const HEADER_END: usize = 10;
 pub const OWNERS_AT: usize = 64;
 pub const MARKS_AT: usize = 128;
 pub const MARK_BYTES: usize = 32;
@@ -61,7 +64,8 @@ pub struct State {
     pub memory: Box<[u8; MEMORY_BYTES]>,
 }
 
-/// The bytes are not those of any state: a spare byte is set or a value is out of its range.
+/// The bytes are not those of any state of a machine with all pages: a spare byte is set, a value
+/// is out of its range, or a page is not the machine's.
 #[derive(Clone, Copy, PartialEq, Eq, Debug)]
 pub struct Malformed;
 
@@ -147,7 +151,7 @@ impl State {
         bytes[STATUS_AT] = self.status;
         bytes[FRAME_COUNT_AT] = self.frames.len() as u8;
         bytes[OUTPUT_COUNT_AT..RESULT_AT].copy_from_slice(&self.output_count.to_le_bytes());
-        bytes[RESULT_AT..HEADER_END].copy_from_slice(&self.result.to_le_bytes());
+        bytes[RESULT_AT..RANGE_AT].copy_from_slice(&self.result.to_le_bytes());
         for page in 0..PAGES {
             bytes[OWNERS_AT + page] = self.owners[page].map_or(0, |live| live.0 + 1);
             for (word, mark) in self.marks[page].iter().enumerate() {
@@ -165,6 +169,7 @@ impl State {
     /// The state that these 24,576 bytes hold, without regard to a module.
     pub fn from_bytes(bytes: &[u8]) -> Result<State, Malformed> {
         require(bytes.len() == STATE_BYTES)?;
+        require(all_zero(&bytes[RANGE_AT..HEADER_END]))?;
         require(all_zero(&bytes[HEADER_END..OWNERS_AT]))?;
         require(all_zero(&bytes[FRAMES_END..MEMORY_AT]))?;
         let mut state = State::empty();

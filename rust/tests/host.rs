@@ -128,7 +128,7 @@ fn the_coordinator_goes_on_from_what_it_saved() {
     assert_eq!(std::fs::read(folder.join("output")).expect("the output"), b"bedacf");
     let state = std::fs::read(folder.join("state")).expect("the state");
     let mut bad = state.clone();
-    bad[8] = 1; // a spare byte
+    bad[63] = 1; // a spare byte
     std::fs::write(folder.join("bad"), bad).expect("a file");
     for (line, status, message) in [
         ("run module form state output 100 9", 2, "refused 22 0: the module has already ended"),

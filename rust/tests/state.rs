@@ -321,9 +321,20 @@ fn values_in_pages() {
     assert_eq!(session.object(u32::MAX), None);
 }
 
+/// Bytes 8 and 9 say which pages are the machine's: all of them.
+#[test]
+fn page_range() {
+    for at in [8, 9] {
+        for pages in 1..=255 {
+            refused(|state| state[at] = pages);
+        }
+    }
+    refused(|state| state[8..10].fill(1));
+}
+
 #[test]
 fn spare_bytes() {
-    for at in [8, 63, 4224, 8191] {
+    for at in [10, 63, 4224, 8191] {
         refused(|state| state[at] = 1);
     }
     for spare in FRAME_SPARE..128 {
