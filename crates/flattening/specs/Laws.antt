@@ -10,15 +10,17 @@ use lib.ListN.{length, getD, set, replicate, length-set, length-replicate, List�
 use lib.Seq.{getD-set-same, getD-set-other}
 use Rattle.words.specs.Bytes.{Bytes}
 use Rattle.words.specs.Choose.{lt-or-le}
-use Rattle.rules.specs.Types.{RegionKind, variable, sub, arg, nowhere}
+use Rattle.rules.specs.Types.{RegionKind, variable, int, sub, arg, nowhere}
 use Rattle.rules.specs.Flat.{Placed, at as placed, Layout, count, single, moved, packed, copiesOf, placedIn, subLayout}
 use Rattle.layout.specs.Prims.{nth, moved-moved, placed-moved, count-packed, count-copiesOf, size-copiesOf}
 use Rattle.layout.specs.Runs.{nth-left, nth-right, nth-copies as nth-copy}
 use Rattle.terms.specs.Compare.{byteUnder, under, sub-same}
 use Rattle.terms.specs.Extents.{Terms, fieldCount}
-use Rattle.terms.specs.Heads.{argsOf, treeAt}
+use Rattle.terms.specs.Heads.{argsOf, treeAt, headOf, grow}
+use Rattle.terms.specs.HeadLaws.{tree-step}
+use Rattle.terms.specs.declared.Head.the-variants.{Int}
 use Rattle.positions.specs.Table.{termLayout, structLayout}
-use Rattle.positions.specs.Positions.{Keeps, Agree, under-agree, argByte, Found, found-single, found-struct, struct-size, struct-count, nth-copies, before, field, struct-fields, more-packed, fits-below, count-below, size-below}
+use Rattle.positions.specs.Positions.{Keeps, Agree, under-agree, argByte, Found, found-single, single-int, found-struct, struct-size, struct-count, nth-copies, before, field, struct-fields, more-packed, fits-below, count-below, size-below}
 use Rattle.positions.specs.declared.Primitive.{Primitive}
 use Rattle.flattening.specs.Written.{entryOf, Room, Written, Kept, Shifted, PastOf, Past}
 
@@ -69,6 +71,16 @@ module _ {subs : List Bytes} {spots : List ℕ} (room : Room subs spots) (at pla
   pub put-single : (f : Bytes) (k w : ℕ) {subs' : List Bytes} {spots' : List ℕ} → place ≤ 256 → termLayout f k place ≡ single w (treeAt f place)
       → subs' ≡ set subs at to → spots' ≡ set spots at (off + 1024 * place) → (Written f subs' spots' at to off (termLayout f k place)) × (Kept subs spots subs' spots' at)
   put-single f k w low is e g = rw (e, g) (written-put f k w low is, kept-put)
+
+-- an integer is the same under every substitution
+pub written-int : {f : Bytes} {subs : List Bytes} {spots : List ℕ} {at : ℕ} {to to' : Bytes} {off : ℕ} (k p w : ℕ) → headOf f p ≡ Int w → Written f subs spots at to off (termLayout f k p) → Written f subs spots at to' off (termLayout f k p)
+written-int {f} {to = to} {to' = to'} {off = off} k p w e h = record { each = λ i m j. h .each i m j ∙ ap (moved off) (either j i m); near = h .near }
+  where
+    is : termLayout f k p ≡ single w (int w)
+    is = unfold grow in single-int f k p off 0 to w e ∙ ap (single w) (tree-step f p ∙ ap (grow (treeAt f)) e)
+
+    either : (j : RegionKind) (i : ℕ) → i < count (termLayout f k p) → placedIn (under {k = j} to) (nth (termLayout f k p) i) ≡ placedIn (under to') (nth (termLayout f k p) i)
+    either j i m = unfold sub in let z : i ≡ 0 = omega (arith, m, ap (λ (L : Layout variable). count L) is) in rw (is, z) refl
 
 pub written-none : {f : Bytes} {subs : List Bytes} {spots : List ℕ} {at : ℕ} {to : Bytes} {off : ℕ} (L : Layout variable) → count L ≡ 0 → Written f subs spots at to off L
 written-none L e = record { each = λ i m. absurd (omega arith); near = λ i m. absurd (omega arith) }

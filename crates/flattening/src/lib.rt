@@ -74,13 +74,10 @@ fn shifted(
     }
 }
 
-// Whether something was written, and under the same substitution.
-fn at_hand(start: usize, x: [u8; 8], y: [u8; 8]) -> bool
-    ensures { λ r. ⌜ (r ≡ true → (0 < start) × (Agree x y)) ⌝ }
+// Whether both substitutions put the same for each variable.
+pub fn agree(x: [u8; 8], y: [u8; 8]) -> bool
+    ensures { λ r. ⌜ (r ≡ true → Agree x y) ⌝ }
 {
-    if start == 0 {
-        return false;
-    }
     let mut i = 0;
     while i < 8 {
         if x[i] != y[i] {
@@ -89,6 +86,16 @@ fn at_hand(start: usize, x: [u8; 8], y: [u8; 8]) -> bool
         i += 1;
     }
     true
+}
+
+// Whether something was written, and under the same substitution.
+fn at_hand(start: usize, x: [u8; 8], y: [u8; 8]) -> bool
+    ensures { λ r. ⌜ (r ≡ true → (0 < start) × (Agree x y)) ⌝ }
+{
+    if start == 0 {
+        return false;
+    }
+    agree(x, y)
 }
 
 // ---- writing out: functions in a cycle, as those of positions
@@ -123,7 +130,8 @@ pub fn term_written(
             Head::Arr(many, a) => {
                 copies_written(f, n, k, a, to, off, many, subs, spots, at, tab);
             }
-            Head::Int(_) => put(subs, spots, at, c, to, off),
+            // an integer has no regions: under one substitution always, it is found alike without reading the file (same_prim, runs)
+            Head::Int(_) => put(subs, spots, at, c, [0u8; 8], off),
             Head::Ptr(_, _) => put(subs, spots, at, c, to, off),
             Head::Struct(_, _, _) => {}
         },

@@ -10,22 +10,25 @@ use lib.Seq.{getD-set-same, getD-set-other}
 use Rattle.words.specs.Bytes.{Bytes}
 use Rattle.words.specs.Decide.{does}
 use Rattle.rules.specs.Types.{variable, sub}
-use Rattle.rules.specs.Flat.{flat, decRun}
+use Rattle.rules.specs.Flat.{Layout, flat, decRun}
 use Rattle.rules.specs.Decode.{moduleOf}
 use Rattle.terms.specs.Compare.{under}
 use Rattle.judgment.specs.Types.{digit-low, digit-rest}
 use Rattle.instructions.specs.Plain.{themselves}
 
 abbrev pub mostRuns : ℕ
-mostRuns = 64
+mostRuns = 239
 
 -- the run of term t at position d of term s
 abbrev pub runKey : ℕ → ℕ → ℕ → ℕ
 runKey s d t = 1 + (t + 256 * (s + 256 * d))
 
+-- the layout of term t as it is written
+abbrev pub layoutOf : Bytes → ℕ → Layout variable
+layoutOf f t = flat (moduleOf f) (sub (under {k = variable} themselves) (moduleOf f .term t))
+
 unfoldable pub runStands : Bytes → ℕ → ℕ → ℕ → Bool
-runStands f s d t =
-    does (decRun (flat (moduleOf f) (sub (under {k = variable} themselves) (moduleOf f .term s))) d (flat (moduleOf f) (sub (under {k = variable} themselves) (moduleOf f .term t))))
+runStands f s d t = does (decRun (layoutOf f s) d (layoutOf f t))
 
 -- what is remembered stands
 pub record Remembered (f : Bytes) (known : List ℕ) : Type 0 where

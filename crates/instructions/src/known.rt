@@ -1,14 +1,16 @@
-// Runs of primitives that were found to stand: those that kind 23 asks for are the same few over and over. A run is remembered by a
-// number that has both terms and the position; whoever asks for one that is not remembered has it compared.
+// Runs of primitives that were found to stand: those that kinds 23, 27 and 28 ask for are the same few over and over. A run is remembered
+// by a number that has both terms and the position; whoever asks for one that is not remembered has it compared.
 ghost use mathlib.Core.Path.{_≡_};
 ghost use Prim.Native.Nat.{_<_};
 ghost use Rattle.words.specs.Bytes.{Bytes};
 ghost use Rattle.positions.specs.Table.{Table};
 ghost use Rattle.instructions.specs.Plain.{themselves};
 ghost use Rattle.instructions.specs.Known.{runKey, runStands, Remembered};
+ghost use Rattle.instructions.specs.Same.{samePrims};
 
-// The runs that are remembered, at most one in each place.
-pub const RUNS: usize = 64;
+// The runs that are remembered, at most one in each place: a prime, so that those of neighbouring terms and positions fall on different
+// places.
+pub const RUNS: usize = 239;
 
 // Nothing is remembered.
 pub fn no_runs() -> [usize; RUNS]
@@ -25,7 +27,7 @@ fn run_key(s: usize, d: u32, t: usize) -> usize
 }
 
 // Each region of a function stands for itself.
-pub fn themselves() -> [u8; 8]
+fn themselves() -> [u8; 8]
     ensures { λ r. ⌜ r ≡ themselves ⌝ }
 {
     [0, 1, 2, 3, 4, 5, 6, 7]
@@ -46,7 +48,7 @@ pub fn run_known(
     ensures { λ r. ⌜ (r ≡ runStands (now (f .entry)) s d t) × (Remembered (now (f .entry)) (now (known .exit))) ⌝ }
 {
     let key = run_key(s, d, t);
-    let i = (s + (t + (d as usize))) % RUNS;
+    let i = key % RUNS;
     if known[i] == key {
         return true;
     }
@@ -56,4 +58,31 @@ pub fn run_known(
         known[i] = key;
     }
     stands
+}
+
+// Whether terms u and t have the same primitives, as they are written: as many, and the run of t from the first on. Most that are compared
+// are one term.
+pub fn same_known(
+    f: &[u8],
+    n: usize,
+    k: usize,
+    tab: &[u64],
+    known: &mut [usize; RUNS],
+    u: usize,
+    t: usize,
+) -> bool
+    requires { ⌜ Table (now f) n k (now tab) ⌝ ∗ ⌜ (u < 256) × (t < 256) ⌝ ∗ ⌜ Remembered (now f) (now known) ⌝ }
+    ensures { λ r. ⌜ (r ≡ samePrims (now (f .entry)) u t) × (Remembered (now (f .entry)) (now (known .exit))) ⌝ }
+{
+    let e = positions::extent_in(tab, terms::place_of(n, u));
+    let count = e.count;
+    if u == t {
+        return 0 < count;
+    }
+    let g = positions::extent_in(tab, terms::place_of(n, t));
+    let other = g.count;
+    if count != other {
+        return false;
+    }
+    run_known(f, n, k, tab, known, u, 0, t)
 }

@@ -2,34 +2,31 @@
 use mathlib.Core.Path.{_≡_, refl, sym, ap, ap₂, _∙_}
 use mathlib.Core.Logic.{inr, ⊎-elim}
 use mathlib.Core.Bool.{Bool, true, false, _&&_}
-use mathlib.Core.List.{List, [], _∷_, map}
 use Prim.Native.Nat.{ℕ, suc, _+_, _-_, _*_, _/_, _%_, _≤_, _<_}
 use native.Mathlib.Decide.{ℕ-discrete, decLt, decLe}
 use native.Mathlib.Nat.{mul-comm}
 use native.Mathlib.Omega.{arith}
 use lib.Dec.{eqb, ltb, leb}
-use lib.ListN.{length}
-use lib.Seq.{take-all}
-use borrow.Author.Tests.{eq-eqb, ne-eqb, eqb-true, lt-ltb, ltb-true, le-ltb, le-leb, lt-leb}
+use borrow.Author.Tests.{eq-eqb, ne-eqb, eqb-true, lt-ltb, le-ltb, le-leb, lt-leb}
 use Rattle.words.specs.Bytes.{Bytes}
-use Rattle.words.specs.Choose.{false-by, true-not-false, lt-or-le, bool-same, and-no, does-lt, does-le}
+use Rattle.words.specs.Choose.{false-by, true-not-false, lt-or-le, bool-same, both, both-of, and-no, does-lt, does-le}
 use Rattle.words.specs.First.{first}
 use Rattle.words.specs.Decide.{does, does-true, decBoth, true-does}
 use Rattle.rules.specs.Types.{RegionKind, variable, live, Tree, sub, decTree}
 use Rattle.rules.specs.Module.{Module}
-use Rattle.rules.specs.Flat.{Placed, at, off, Layout, count, moved, subLayout, flat, distance, decPlaced, Run, decRun, positionAt, Same, decSame, size}
+use Rattle.rules.specs.Flat.{Placed, at, off, Layout, count, moved, subLayout, flat, distance, decPlaced, decRun, positionAt, size}
 use Rattle.rules.specs.Decode.{moduleOf}
-use Rattle.layout.specs.Prims.{nth, moved-zero, count-sub, subLayout-size}
+use Rattle.layout.specs.Prims.{nth, count-sub}
 use Rattle.rules.specs.Limits.{pages, pageBytes, memoryBytes}
 use Rattle.rules.specs.Heap.{HeapTyping, decStands}
-use Rattle.layout.specs.Flat.{distance-zero, size-sub}
+use Rattle.layout.specs.Flat.{size-sub}
 use Rattle.layout.specs.Runs.{run-matches, matches-run, distance-sub}
 use Rattle.terms.specs.Heads.{placeOf, treeAt}
 use Rattle.terms.specs.Extents.{Counted}
-use Rattle.terms.specs.Compare.{under, does-map, does-both, does-nat}
+use Rattle.terms.specs.Compare.{under, sub-same, does-map, does-both, does-nat}
 use Rattle.equality.specs.Equal.{placesSame}
-use Rattle.positions.specs.Table.{termLayout, Table}
-use Rattle.positions.specs.Positions.{Keeps, Agree, placedOf, Found}
+use Rattle.positions.specs.Table.{termLayout}
+use Rattle.positions.specs.Positions.{Keeps, Agree, under-agree, placedOf, Found}
 use Rattle.positions.specs.Distances.{position-under, found-nth, found-off, layout-under}
 use Rattle.positions.specs.declared.Primitive.{Primitive}
 
@@ -69,6 +66,18 @@ module _ (k : RegionKind) (f : Bytes) where
       sym (does-map _ _ (decBoth (ℕ-discrete (x .off) (from + y .off)) (decTree (sub (under {k = k} (x .to)) (treeAt f (x .place))) (sub (under (y .to)) (treeAt f (y .place)))))
       ∙ does-both (ℕ-discrete (x .off) (from + y .off)) (decTree (sub (under {k = k} (x .to)) (treeAt f (x .place))) (sub (under (y .to)) (treeAt f (y .place))))
       ∙ ap (λ (b : Bool). b && does (decTree (sub (under {k = k} (x .to)) (treeAt f (x .place))) (sub (under (y .to)) (treeAt f (y .place))))) (does-nat (x .off) (from + y .off)))
+
+  -- at one place, under substitutions that agree, only the distances are left
+  pub placed-alike : (x : Primitive) (from : ℕ) (y : Primitive) (agree : Bool) → eqb (x .place) (y .place) && agree ≡ true → (agree ≡ true → Agree (x .to) (y .to))
+      → eqb (x .off) (from + y .off) ≡ does (decPlaced (placedOf k f x) (moved from (placedOf k f y)))
+  placed-alike x from y agree h so = sym (bool-same (eqb (x .off) (from + y .off) && true) (eqb (x .off) (from + y .off)) (λ e. both (eqb (x .off) (from + y .off)) true e .0) (λ e. both-of e refl))
+      ∙ ap (λ (b : Bool). eqb (x .off) (from + y .off) && b) (sym same) ∙ placed-same x from y
+    where
+      same : placesSame k f (x .place) (x .to) (y .place) (y .to) ≡ true
+      same = unfold placesSame in
+          let l = both (eqb (x .place) (y .place)) agree h in
+          true-does (decTree (sub (under {k = k} (x .to)) (treeAt f (x .place))) (sub (under (y .to)) (treeAt f (y .place))))
+          (sub-same (under {k = k} (x .to)) (under (y .to)) (under-agree (x .to) (y .to) (so (l .1))) (treeAt f (x .place)) ∙ ap (λ (p : ℕ). sub (under {k = k} (y .to)) (treeAt f p)) (eqb-true (x .place) (y .place) (l .0)))
 
 -- the sum of the code, as a difference
 pub eqb-minus : (x from y : ℕ) → from ≤ x → eqb (x - from) y ≡ eqb x (from + y)
@@ -146,81 +155,6 @@ run-at-is f u p keeps o t q d e r h = (
   h .0 ∙ ap (λ (x : ℕ). does (decRun (flat (moduleOf f) (sub (under {k = variable} p) (moduleOf f .term u))) x (flat (moduleOf f) (sub (under q) (moduleOf f .term t))))) (e ∙ sym (position-under variable f p keeps u o)),
   h .1 ∙ ap (λ (x : ℕ). does (decRun (flat (moduleOf f) (sub (under {k = live} p) (moduleOf f .term u))) x (flat (moduleOf f) (sub (under q) (moduleOf f .term t))))) (e ∙ sym (position-under live f p keeps u o)),
 )
-
--- ---- equal primitives
-
-abbrev pub SameIs : Bytes → ℕ → ℕ → Bytes → Bool → Type 0
-SameIs f u t p r =
-    (r ≡ does (decSame (flat (moduleOf f) (sub (under {k = variable} p) (moduleOf f .term u))) (flat (moduleOf f) (sub (under p) (moduleOf f .term t)))))
-    × (r ≡ does (decSame (flat (moduleOf f) (sub (under {k = live} p) (moduleOf f .term u))) (flat (moduleOf f) (sub (under p) (moduleOf f .term t)))))
-
--- the same primitives as itself has a layout that has some
-same-itself : {k : RegionKind} (L : Layout k) (c : ℕ) → count L ≡ c → ltb 0 c ≡ does (decSame L L)
-same-itself L c e = bool-same (ltb 0 c) (does (decSame L L))
-    (λ h. true-does (decSame L L) (record { some = let l = ltb-true 0 c h in omega arith; equal = refl }))
-    (λ h. lt-ltb 0 c (let l = does-true (decSame L L) h .some in omega arith))
-
-module _ {k : RegionKind} (L M : Layout k) where
-  pub same-counts : (count L ≡ count M → ⊥) → false ≡ does (decSame L M)
-  same-counts h = sym (false-by (λ e. h (ap length (does-true (decSame L M) e .equal))))
-
-  -- as many primitives, and the run from the first one, which is at distance 0
-  pub same-run-from : count L ≡ count M → (0 < count L → distance L 0 ≡ 0) → does (decRun L 0 M) ≡ does (decSame L M)
-  same-run-from e z = bool-same (does (decRun L 0 M)) (does (decSame L M))
-      (λ h. let r = does-true (decRun L 0 M) h in true-does (decSame L M) (record { some = let s = r .some in omega arith; equal = to r }))
-      (λ h. let s = does-true (decSame L M) h in true-does (decRun L 0 M) (from s))
-    where
-      nothing : (l : List (Placed k)) (x : ℕ) → x ≡ 0 → map (moved x) l ≡ l
-      nothing [] x q = refl
-      nothing (P ∷ l) x q = ap₂ {C = List (Placed k)} _∷_ (ap (λ (y : ℕ). moved y P) q ∙ moved-zero P) (nothing l x q)
-
-      to : Run L 0 M → L .prims ≡ M .prims
-      to r =
-          let s = r .some in
-          sym (take-all (count M) (L .prims) (omega arith)) ∙ r .equal ∙ nothing (M .prims) (distance L 0) (z (omega arith))
-
-      from : Same L M → Run L 0 M
-      from s = record {
-        some = let p = s .some in omega arith;
-        equal = take-all (count M) (L .prims) (omega arith) ∙ s .equal ∙ sym (nothing (M .prims) (distance L 0) (z (s .some)));
-      }
-
-module _ (f : Bytes) (n s : ℕ) (tab : List ℕ) (h : Table f n s tab) (p : Bytes) (keeps : Keeps p) where
-  -- term t under p
-  abbrev under-p : (j : RegionKind) → ℕ → Layout j
-  under-p j t = flat (moduleOf f) (sub (under {k = j} p) (moduleOf f .term t))
-
-  module _ (j : RegionKind) (t a : ℕ) (e : a ≡ placeOf n t) where
-    layout-is : subLayout (under {k = j} p) (termLayout f s a) ≡ under-p j t
-    layout-is = ap (λ (x : ℕ). subLayout (under {k = j} p) (termLayout f s x)) e ∙ layout-under j f n s (h .counted) t p p keeps (λ v. refl)
-
-    count-is : count (under-p j t) ≡ count (termLayout f s a)
-    count-is = ap (λ (L : Layout j). count L) (sym layout-is) ∙ count-sub (under {k = j} p) (termLayout f s a)
-
-    first-zero : a ≤ n → 0 < count (under-p j t) → distance (under-p j t) 0 ≡ 0
-    first-zero l m =
-        let c = count-is in
-        distance-zero (moduleOf f) (sub (under {k = j} p) (moduleOf f .term t))
-        (omega (arith, h .sized a l (omega arith), ap (λ (L : Layout j). L .size) (sym layout-is), subLayout-size (under {k = j} p) (termLayout f s a)))
-
-  pub same-own : (t u a : ℕ) → u ≡ t → a ≡ placeOf n u → (c : ℕ) → c ≡ count (termLayout f s a) → SameIs f u t p (ltb 0 c)
-  same-own t u a q e c is = (own variable, own live)
-    where
-      own : (j : RegionKind) → ltb 0 c ≡ does (decSame (under-p j u) (under-p j t))
-      own j = same-itself (under-p j u) c (count-is j u a e ∙ sym is) ∙ ap (λ (x : ℕ). does (decSame (under-p j u) (under-p j x))) q
-
-  module _ (u t a b : ℕ) (ea : a ≡ placeOf n u) (eb : b ≡ placeOf n t) (la : a ≤ n) where
-    pub same-no : (count (termLayout f s a) ≡ count (termLayout f s b) → ⊥) → SameIs f u t p false
-    same-no d = (no variable, no live)
-      where
-        no : (j : RegionKind) → false ≡ does (decSame (under-p j u) (under-p j t))
-        no j = same-counts (under-p j u) (under-p j t) (λ e. d (sym (count-is j u a ea) ∙ e ∙ count-is j t b eb))
-
-    pub same-is : count (termLayout f s a) ≡ count (termLayout f s b) → (r : Bool) → RunIs f u p 0 t p r → SameIs f u t p r
-    same-is e r w = (w .0 ∙ from-run variable, w .1 ∙ from-run live)
-      where
-        from-run : (j : RegionKind) → does (decRun (under-p j u) 0 (under-p j t)) ≡ does (decSame (under-p j u) (under-p j t))
-        from-run j = same-run-from (under-p j u) (under-p j t) (count-is j u a ea ∙ e ∙ sym (count-is j t b eb)) (first-zero j u a ea la)
 
 -- ---- addresses
 

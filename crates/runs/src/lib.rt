@@ -12,7 +12,7 @@ ghost use Rattle.terms.specs.Compare.{under};
 ghost use Rattle.positions.specs.Table.{Table, termLayout};
 ghost use Rattle.positions.specs.Positions.{Keeps, placedOf};
 ghost use Rattle.runs.specs.Entries.{Compared};
-ghost use Rattle.runs.specs.Runs.{RunAtIs, SameIs, InPageIs, StandsIs};
+ghost use Rattle.runs.specs.Runs.{RunAtIs, InPageIs, StandsIs};
 use flattening::ENTRIES;
 use positions::Primitive;
 use state::Machine;
@@ -33,6 +33,9 @@ fn same_prim(f: &[u8], x: Primitive, from: usize, y: Primitive) -> bool
     let y_to = y.to;
     if x_off < from {
         return false;
+    }
+    if (x_place == y_place) & flattening::agree(x_to, y_to) {
+        return x_off - from == y_off;
     }
     (x_off - from == y_off) & equality::same_places(f, x_place, &x_to, y_place, &y_to)
 }
@@ -209,22 +212,6 @@ pub fn run_at(
 {
     let d = positions::position_at(f, n, k, u, o, tab);
     run_from(f, n, k, u, p, d, t, q, tab)
-}
-
-// Whether the primitives of terms u and t, both under p, are the same (kinds 27, 28). Most that are compared are one term.
-pub fn same_prims(f: &[u8], n: usize, k: usize, u: usize, t: usize, p: &[u8], tab: &[u64]) -> bool
-    requires { ⌜ (Table (now f) n k (now tab)) × (length (now p) ≤ 8) ⌝ }
-    ensures { λ r. ⌜ SameIs (now (f .entry)) u t (now (p .entry)) r ⌝ }
-{
-    let e = positions::extent_in(tab, terms::place_of(n, u));
-    if u == t {
-        return 0 < e.count;
-    }
-    let g = positions::extent_in(tab, terms::place_of(n, t));
-    if e.count != g.count {
-        return false;
-    }
-    run_from(f, n, k, u, p, 0, t, p, tab)
 }
 
 // ---- addresses

@@ -1,6 +1,7 @@
 //! Nanoseconds a record of the two checkers, best of several rounds in one run, on accepted modules
-//! of 1 to 64 blocks that are full of instructions of every form, and on three that are made to
-//! be slow. Built with the feature `librcm` and the folder of `librcm.a` in RCM_LIB_DIR.
+//! of 1 to 64 blocks that are full of instructions of every form, on one that asks for the fields
+//! of many structs in turn, and on six that are made to be slow. Built with the feature `librcm`
+//! and the folder of `librcm.a` in RCM_LIB_DIR.
 
 use reference::builder::{code, file, record, FunctionBuilder, ModuleBuilder};
 use reference::compare::Interface;
@@ -81,6 +82,31 @@ fn module(blocks: usize) -> Vec<u8> {
     file(&records)
 }
 
+/// The file of 64 blocks with four functions of these regions and registers, the first of them an
+/// i32, whose instructions are these over and over.
+fn full(
+    mut module: ModuleBuilder,
+    regions: Vec<u8>,
+    registers: Vec<u8>,
+    body: &[Record],
+) -> Vec<u8> {
+    for _ in 0..4 {
+        let mut code: Vec<Record> = body.iter().copied().cycle().take(940).collect();
+        code.push(code::ret(0));
+        module.function(&FunctionBuilder {
+            regions: regions.clone(),
+            region_parameters: 0,
+            registers: registers.clone(),
+            parameters: 0,
+            return_term: registers[0],
+            code,
+        });
+    }
+    let mut records = module.records();
+    records.resize(64 * 63, record(0, 0, 0, 0, 0));
+    file(&records)
+}
+
 /// A field of a struct: so many i8, or a struct of a lower number with its regions.
 #[derive(Clone, PartialEq)]
 enum Field {
@@ -127,13 +153,21 @@ fn permuted() -> Vec<Vec<Field>> {
     structs
 }
 
-/// A module of 64 blocks in which each instruction compares 256 primitives: those of the last of
-/// these structs, of so many regions, with those of an array.
-fn slow(structs: &[Vec<Field>], regions: u8) -> Vec<u8> {
-    let mut module = ModuleBuilder::new();
-    let i32_term = module.integer(4);
-    let i8_term = module.integer(1);
-    let array = module.array(i8_term, 256);
+/// The last struct of 256 primitives is made in a region of an array, and is used as that array.
+fn one_run() -> (Vec<u32>, Vec<Record>) {
+    (vec![256], vec![code::new(1), code::field(2, 1, 0)])
+}
+
+/// Each instruction asks for another run of 178 to 192 primitives: so many that none is found
+/// among those remembered.
+fn many_runs() -> (Vec<u32>, Vec<Record>) {
+    let arrays: Vec<u32> = (0..15).map(|shorter| 192 - shorter).collect();
+    let runs = |array: u8| (0..64).map(move |position| code::field(3 + array, 1, position));
+    ([vec![256], arrays].concat(), (0..15).flat_map(runs).collect())
+}
+
+/// The terms of these structs' fields, each term once.
+fn field_terms(module: &mut ModuleBuilder, i8_term: u8, structs: &[Vec<Field>]) -> Vec<Vec<u8>> {
     let mut known: Vec<(Field, u8)> = vec![];
     let mut term = |field: &Field| {
         if let Some((_, term)) = known.iter().find(|(other, _)| other == field) {
@@ -146,30 +180,70 @@ fn slow(structs: &[Vec<Field>], regions: u8) -> Vec<u8> {
         known.push((field.clone(), term));
         term
     };
-    let fields: Vec<Vec<u8>> =
-        structs.iter().map(|fields| fields.iter().map(&mut term).collect()).collect();
-    let last = term(&Field::Struct(structs.len() as u8 - 1, (0..regions).collect()));
+    structs.iter().map(|fields| fields.iter().map(&mut term).collect()).collect()
+}
+
+/// A module of 64 blocks whose instructions compare the primitives of the last of these structs,
+/// of so many regions (register 1 points to it), with those of arrays of so many bytes (the
+/// registers from 2 on): these instructions over and over. The regions have the first array.
+fn slow(structs: &[Vec<Field>], regions: u8, (arrays, body): (Vec<u32>, Vec<Record>)) -> Vec<u8> {
+    let mut module = ModuleBuilder::new();
+    let i32_term = module.integer(4);
+    let i8_term = module.integer(1);
+    let arrays: Vec<u8> = arrays.iter().map(|&count| module.array(i8_term, count)).collect();
+    let fields = field_terms(&mut module, i8_term, structs);
+    let arguments: Vec<u8> = (0..regions).collect();
+    let last = module.name_term(structs.len() as u8 - 1, &arguments);
     let to_struct = module.pointer(last, 0);
-    let to_array = module.pointer(array, 0);
+    let to_arrays = arrays.iter().map(|&array| module.pointer(array, 0));
+    let registers = [i32_term, to_struct].into_iter().chain(to_arrays).collect();
     for fields in &fields {
         module.name(regions, fields);
     }
-    for _ in 0..4 {
-        let pair = [code::new(1), code::field(2, 1, 0)];
-        let mut code: Vec<Record> = pair.into_iter().cycle().take(940).collect();
-        code.push(code::ret(0));
-        module.function(&FunctionBuilder {
-            regions: vec![array; usize::from(regions.max(1))],
-            region_parameters: 0,
-            registers: vec![i32_term, to_struct, to_array],
-            parameters: 0,
-            return_term: i32_term,
-            code,
-        });
+    full(module, vec![arrays[0]; usize::from(regions.max(1))], registers, &body)
+}
+
+/// A module of few blocks: 90 terms name the last of these structs, and refusal 5 measures each.
+fn many_terms(structs: &[Vec<Field>]) -> Vec<u8> {
+    let mut module = ModuleBuilder::new();
+    let i32_term = module.integer(4);
+    let i8_term = module.integer(1);
+    let fields = field_terms(&mut module, i8_term, structs);
+    for _ in 0..90 {
+        module.name_term(structs.len() as u8 - 1, &[]);
     }
+    for fields in &fields {
+        module.name(0, fields);
+    }
+    module.function(&FunctionBuilder {
+        regions: vec![],
+        region_parameters: 0,
+        registers: vec![i32_term],
+        parameters: 0,
+        return_term: i32_term,
+        code: vec![code::ret(0)],
+    });
     let mut records = module.records();
-    records.resize(64 * 63, record(0, 0, 0, 0, 0));
+    let blocks = records.len().div_ceil(63);
+    records.resize(blocks * 63, record(0, 0, 0, 0, 0));
     file(&records)
+}
+
+/// A module of 64 blocks with 12 structs of 7 fields, in which each instruction asks for another
+/// field.
+fn fields_in_turn() -> Vec<u8> {
+    let mut module = ModuleBuilder::new();
+    let i32_term = module.integer(4);
+    let structs: Vec<u8> = (0..12).map(|number| module.name_term(number, &[])).collect();
+    let to_i32 = module.pointer(i32_term, 0);
+    let to_structs = structs.iter().map(|&term| module.pointer(term, 0));
+    let registers = [i32_term, to_i32].into_iter().chain(to_structs).collect();
+    for _ in &structs {
+        module.name(0, &[i32_term; 7]);
+    }
+    let fields = |number: u8| (0..7).map(move |position| code::field(1, 2 + number, position));
+    let body: Vec<Record> = (0..12).flat_map(fields).collect();
+    full(module, vec![i32_term], registers, &body)
 }
 
 /// The shortest of several rounds of so many calls.
@@ -205,9 +279,16 @@ fn main() {
     for blocks in [1, 4, 16, 64] {
         row(&module(blocks), 200);
     }
+    println!("84 fields of 12 structs in turn:");
+    row(&fields_in_turn(), 20);
     println!("made to be slow, each instruction on 256 primitives of structs:");
     println!("31 deep; 252 side by side, 28 deep; 256 side by side, 23 deep, regions permuted");
-    row(&slow(&deep(), 0), 1);
-    row(&slow(&wide(), 0), 1);
-    row(&slow(&permuted(), 4), 1);
+    row(&slow(&deep(), 0, one_run()), 1);
+    row(&slow(&wide(), 0, one_run()), 1);
+    row(&slow(&permuted(), 4, one_run()), 1);
+    println!("the first and the last of them, each instruction for another run:");
+    row(&slow(&deep(), 0, many_runs()), 1);
+    row(&slow(&permuted(), 4, many_runs()), 1);
+    println!("90 terms that name the last of the structs side by side:");
+    row(&many_terms(&wide()), 1);
 }

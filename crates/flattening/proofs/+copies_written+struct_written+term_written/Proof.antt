@@ -2,6 +2,7 @@
 -- for terms: `copies_written` for that very place, `struct_written` for any, with the structs below it. So 2048 k + 2 p falls for a term, copies
 -- of it are one above, and a struct N lies between, at 2048 N + 1024. Assumes nothing.
 use Prim.Native.Nat.{ℕ, _+_, _*_, _-_, _≤_, _<_}
+use Rattle.words.specs.Bytes.{Bytes}
 use Rattle.rules.specs.File.{entryOf}
 use Rattle.rules.specs.Flat.{Layout, count, copiesOf, subLayout}
 use Rattle.rules.specs.Types.{variable, arg}
@@ -19,10 +20,10 @@ use Rattle.positions.specs.declared.Core.{Core}
 use Rattle.positions.specs.declared.Core.the-variants.{Term}
 use Rattle.positions.specs.declared.Primitive.{Primitive}
 use Rattle.flattening.specs.Written.{Written, Kept, PastOf, Past}
-use Rattle.flattening.specs.Laws.{put-single, put-memo, past-later, past-kept, written-off, agree-written, put-written, put-kept, past-put, written-none, kept-none, written-same, copies-end, kept-kept, written-kept, written-first, written-copy, written-shifted, copy-room, copy-behind, written-struct, size-next, count-next, field-fits, field-room, written-field}
+use Rattle.flattening.specs.Laws.{put-single, put-memo, written-int, past-later, past-kept, written-off, agree-written, put-written, put-kept, past-put, written-none, kept-none, written-same, copies-end, kept-kept, written-kept, written-first, written-copy, written-shifted, copy-room, copy-behind, written-struct, size-next, count-next, field-fits, field-room, written-field}
 use borrow.Author.Needs.{needs}
 use denote.Ref.{now}
-use lib.ListN.{length}
+use lib.ListN.{length, replicate}
 use mathlib.Core.List.{List}
 use mathlib.Core.Path.{_≡_, refl, sym, ap, _∙_, subst}
 use native.Mathlib.Numerals.{add-one}
@@ -532,9 +533,11 @@ term-written-returns-4 : (t : ℕ) → term-written-lts.Need-returns-4 (term-wri
 term-written-returns-4 t c =
     let a = c .before .before .before .before .before .before .before .before .before .before .before .before .before .before .args in
     let x = c .before .before .before .before .before in
-    let w = put-single (c .before .before .before .before .before .before .before .before .before .before .before .before .before .before .pre .1 .5) (a .at) (trm-p t x) (a .t5) (a .off) (omega (arith, trm-room t x, trm-some t x)) (omega (arith, trm-fits t x)) (now (a .f)) (a .k) _ (omega (arith, trm-low t x, c .before .before .before .before .before .before .before .before .before .before .before .before .before .before .pre .1 .4 .terms .few))
-    (single-int (now (a .f)) (a .k) (trm-p t x) (a .off) 0 (a .t5) _ (sym (c .before .before .before .before .before .head-of .ensures .0) ∙ c .before .before .before .enum-told .given .1)) (c .put .ensures .0) (c .put .ensures .1) in
-    (written-same (sym (trm-same t x)) (w .0), w .1, past-later (a .at) (a .off) (past-kept (a .at) (a .off) (c .before .before .before .before .before .before .before .before .before .before .before .before .before .before .pre .1 .7) (w .1) (omega arith) (put-memo (c .before .before .before .before .before .before .before .before .before .before .before .before .before .before .pre .1 .5) (a .at) (trm-p t x) (a .t5) (a .off) (let z = trm-some t x in omega (arith, trm-room t x)) (omega (arith, trm-fits t x)) (let z = trm-some t x in omega (arith, trm-room t x)) (c .put .ensures .0) (c .put .ensures .1))) (omega arith) (omega arith))
+    let none : Bytes = replicate 8 0 in
+    let e = sym (c .before .before .before .before .before .head-of .ensures .0) ∙ c .before .before .before .enum-told .given .1 in
+    let w = put-single (c .before .before .before .before .before .before .before .before .before .before .before .before .before .before .pre .1 .5) (a .at) (trm-p t x) none (a .off) (omega (arith, trm-room t x, trm-some t x)) (omega (arith, trm-fits t x)) (now (a .f)) (a .k) _ (omega (arith, trm-low t x, c .before .before .before .before .before .before .before .before .before .before .before .before .before .before .pre .1 .4 .terms .few))
+    (single-int (now (a .f)) (a .k) (trm-p t x) (a .off) 0 none _ e) (c .put .ensures .0) (c .put .ensures .1) in
+    (written-same (sym (trm-same t x)) (written-int (a .k) (trm-p t x) _ e (w .0)), w .1, past-later (a .at) (a .off) (past-kept (a .at) (a .off) (c .before .before .before .before .before .before .before .before .before .before .before .before .before .before .pre .1 .7) (w .1) (omega arith) (put-memo (c .before .before .before .before .before .before .before .before .before .before .before .before .before .before .pre .1 .5) (a .at) (trm-p t x) none (a .off) (let z = trm-some t x in omega (arith, trm-room t x)) (omega (arith, trm-fits t x)) (let z = trm-some t x in omega (arith, trm-room t x)) (c .put .ensures .0) (c .put .ensures .1))) (omega arith) (omega arith))
 
 term-written-returns-5 : (t : ℕ) → term-written-lts.Need-returns-5 (term-written-uses t) (term-written-at t) term-written.Post
 term-written-returns-5 t c =
