@@ -4,14 +4,15 @@ ghost use mathlib.Core.Path.{_≡_};
 ghost use mathlib.Core.List.{[], _∷_};
 ghost use Prim.Native.Nat.{suc, _+_, _*_, _<_, _≤_};
 ghost use lib.ListN.{length};
+ghost use Rattle.words.specs.Bytes.{Bytes};
 ghost use Rattle.rules.specs.Limits.{stateBytes, pages, pageBytes, liveRegions, markBytes};
 ghost use Rattle.rules.specs.State.{lowPage, endPage, view, pageOwner, pageMark, written, putOwner, putMark, clearMemory, clearPage};
 ghost use Rattle.rules.specs.Heap.{placesInPage};
 ghost use Rattle.rules.specs.Step.{unusedPlace, unownedPage};
 ghost use Rattle.state.specs.Marks.{lowestZero};
-ghost use Rattle.pages.specs.Search.{Found};
+ghost use Rattle.pages.specs.Search.{Found, NoneBefore};
 ghost use Rattle.pages.specs.Places.{openByte, FullBelow};
-ghost use Rattle.pages.specs.Known.{UsedBelow, Used, forgot};
+ghost use Rattle.pages.specs.Known.{knownEntries, UsedBelow, Used, lowered, forgot, remembered};
 ghost use Rattle.pages.specs.Meaning.{chosen, Within};
 use state::LiveRegion;
 use state::Machine;
@@ -101,8 +102,17 @@ fn lowest_place(s: &[u8], p: u32, from: u32, n: u32) -> u32
 
 // ---- pages
 
-// The entries of `known`, one a page: how many places, from the first on, are known to be used.
-pub const KNOWN: usize = Machine::PAGES as usize;
+// The table `known` has an entry for each page: how many of its places, from the first on, are known to be used. Behind them stands a hint,
+// where the last place was found: 1 + its region (0: there is no hint), the places to a page, and the page. The region's pages below that
+// one have no place for such objects, so that the next search for one starts there. (In a run a live region's objects have one size; the
+// table knows no types.)
+const HINT_REGION: usize = Machine::PAGES as usize;
+
+const HINT_PLACES: usize = HINT_REGION + 1;
+
+const HINT_PAGE: usize = HINT_REGION + 2;
+
+pub const KNOWN: usize = HINT_REGION + 3;
 
 // The lowest of the pages low to past - 1 that nobody owns; else past, or low where that is higher.
 pub fn unowned_page(s: &[u8], low: u32, past: u32) -> u32
@@ -167,6 +177,30 @@ pub fn find_room(
     }
 }
 
+// Where a search from page low on may start: at the hint's page, if the hint is for region r and n places to a page. (Nothing is asked of
+// that page but that it is not below low: whatever it is, the pages before it have no room.)
+fn search_start(known: &[u32; KNOWN], low: u32, r: LiveRegion, n: u32) -> u32
+    ensures { λ p. ⌜ ((s : Bytes) → Used (now (known .entry)) s → low ≡ lowPage (view s .range) → NoneBefore (pageOwner s) (pageMark s) low p (r .0) n) ⌝ }
+{
+    if (known[HINT_REGION] == wide(r.0) + 1)
+        & (known[HINT_PLACES] == n)
+        & (low <= known[HINT_PAGE])
+    {
+        known[HINT_PAGE]
+    } else {
+        low
+    }
+}
+
+// The hint from now on: region r has a place in page p, of n to a page.
+fn remember(known: &mut [u32; KNOWN], r: LiveRegion, n: u32, p: u32)
+    ensures { λ _. ⌜ now (known .exit) ≡ remembered (now (known .entry)) (r .0) n p ⌝ }
+{
+    known[HINT_REGION] = wide(r.0) + 1;
+    known[HINT_PLACES] = n;
+    known[HINT_PAGE] = p;
+}
+
 // What a new object of region r takes of the pages that the machine may own, n places to a page: rules' `allocateIn` for objects of a
 // size with n places (chosen-from).
 pub fn allocate(s: &[u8], known: &mut [u32; KNOWN], r: LiveRegion, n: u32) -> Chosen
@@ -176,10 +210,12 @@ pub fn allocate(s: &[u8], known: &mut [u32; KNOWN], r: LiveRegion, n: u32) -> Ch
     let own = range(s);
     let low = low_page(own);
     let past = end_page(own);
-    let x = find_room(s, known, low, past, r, n);
+    let from = search_start(known, low, r, n);
+    let x = find_room(s, known, from, past, r, n);
     let p = x.page;
     let j = x.place;
     if p < past {
+        remember(known, r, n, p);
         return Chosen::Place(p, j);
     }
     let q = unowned_page(s, low, past);
@@ -190,15 +226,23 @@ pub fn allocate(s: &[u8], known: &mut [u32; KNOWN], r: LiveRegion, n: u32) -> Ch
     }
 }
 
-// Place j of page q may be free from now on.
+// Entry i is at most x from now on.
+fn lower(known: &mut [u32; KNOWN], i: usize, x: u32)
+    requires { ⌜ i < knownEntries ⌝ }
+    ensures { λ _. ⌜ now (known .exit) ≡ lowered (now (known .entry)) i x ⌝ }
+{
+    if x < known[i] {
+        known[i] = x;
+    }
+}
+
+// Place j of page q may be free from now on: a search may not pass over it, nor start behind its page.
 pub fn forget(known: &mut [u32; KNOWN], q: u32, j: u32)
     requires { ⌜ q < pages ⌝ }
     ensures { λ _. ⌜ now (known .exit) ≡ forgot (now (known .entry)) q j ⌝ }
 {
-    let i = q as usize;
-    if j < known[i] {
-        known[i] = j;
-    }
+    lower(known, q as usize, j);
+    lower(known, HINT_PAGE, q);
 }
 
 // ---- writes

@@ -9,13 +9,13 @@ use Rattle.pages.proofs.lowest_place.Statement.{statement}
 use Rattle.pages.proofs.lowest_place.Tie as tie
 
 returns : tie.Need-returns
-returns c = used-none (c .before .before .args .s .now) (c .before .before .args .p) (c .before .before .args .from) (c .before .before .pre .1) (c .before .before .pre .3) (c .before .before .args .n) (c .if1 .taken)
+returns c = used-none (c .before .before .args .s .now) (c .before .before .args .p) (c .before .before .args .from) (c .before .before .pre .3) (c .before .before .args .n) (c .if1 .taken)
 
 cast-open-byte : tie.Need-cast-open-byte
 cast-open-byte c = search needs
 
 open-byte-requires : tie.Need-open-byte-requires
-open-byte-requires c κs = (c .before .before .pre .0, c .before .before .pre .1, omega arith, used-full (c .before .before .args .s .now) (c .before .before .args .p) (c .before .before .args .from) (c .before .before .pre .1) (c .before .before .pre .3) (λ k. c .before .shared-slice-known .given k .fits))
+open-byte-requires c κs = (c .before .before .pre .0, c .before .before .pre .1, omega arith, used-full (c .before .before .args .s .now) (c .before .before .args .p) (c .before .before .args .from) (c .before .before .pre .3) (c .before .before .pre .1) (λ k. c .before .shared-slice-known .given k .fits))
 
 marks-place-requires : tie.Need-marks-place-requires
 marks-place-requires c κs = search needs

@@ -21,7 +21,7 @@ element-write-known c = search needs
 
 returns : tie.Need-returns
 returns c =
-    (c .lowest-place .ensures, used-set (c .before .before .before .args .known .now) (c .before .before .before .args .s .now) (c .before .before .before .args .p) (c .lowest-place .result) (used-lowest (c .before .before .before .args .s .now) (λ k. c .before .before .shared-slice-known .given k .fits) (c .before .before .before .args .p) (c .before .before .before .args .n) (c .lowest-place .result) (c .lowest-place .ensures)) (c .before .before .before .pre .3))
+    (c .lowest-place .ensures, used-set (c .before .before .before .args .known .now) (c .before .before .before .args .s .now) (c .before .before .before .args .p) (c .lowest-place .result) (c .before .before .before .pre .1) (used-lowest (c .before .before .before .args .s .now) (λ k. c .before .before .shared-slice-known .given k .fits) (c .before .before .before .args .p) (c .before .before .before .args .n) (c .lowest-place .result) (c .lowest-place .ensures)) (c .before .before .before .pre .3))
 
 pub place-in-spec : {M : Type 1} → statement M
 place-in-spec =
