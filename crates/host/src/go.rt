@@ -3,23 +3,29 @@ ghost use mathlib.Core.Path.{_≡_};
 ghost use Prim.Native.Nat.{_≤_};
 ghost use lib.ListN.{length};
 ghost use Rattle.rules.specs.Limits.{mostForm, outputBytes, stateBytes};
+ghost use Rattle.rules.specs.File.{blocks};
 ghost use Rattle.rules.specs.Decode.{moduleOf};
 ghost use Rattle.rules.specs.State.{view};
 ghost use Rattle.rules.specs.StateTest.{Passes};
 ghost use Rattle.rules.specs.Verdict.{verdictOf, IsAccepted};
 ghost use Rattle.rules.specs.Host.{goOf, goAt};
+ghost use Rattle.prepare.specs.Room.{smallBlocks};
+ghost use Rattle.turns.specs.Turns.{Came};
 ghost use Rattle.host.specs.Ready.{Ready};
 ghost use Rattle.host.specs.Going.{WentBy, Answers};
 use crate::tables::Tables;
 use crate::tables::passes;
 use crate::tables::tables_of;
 use prepare::code::CODE_WORDS;
+use prepare::code::SMALL_BLOCKS;
+use prepare::code::SMALL_WORDS;
 use prepare::fill;
 use rules::PageRange;
 use rules::Verdict;
 use rules::limits::BAD_INPUT;
 use rules::limits::BAD_LENGTH;
 use rules::limits::BAD_STATE;
+use rules::limits::BLOCK_BYTES;
 use rules::limits::CALLEES;
 use rules::limits::NOT_RUNNING;
 use run::Outcome;
@@ -50,18 +56,52 @@ fn answer(s: &[u8], steps: u64) -> Went
     }
 }
 
-// Of a running state that passes the test: what the run reads is filled once, then at most budget steps.
-fn go_running(
-    range: PageRange,
-    file: &[u8],
-    t: Tables,
-    form: &[u8],
-    s: &mut [u8],
-    o: &mut [u8],
-    budget: u64,
-) -> Went
-    requires { ⌜ Ready (now file) t ⌝ ∗ ⌜ Passes (moduleOf (now file)) (now s) × (view (now s) .range ≡ range) ⌝ ∗ ⌜ (view (now s) .status ≡ 0) × (length (now form) ≤ mostForm) × (length (now o) ≡ outputBytes) ⌝ }
-    ensures { λ r. ⌜ WentBy r (now (s .entry)) (now (s .exit)) (now (o .entry)) (now (o .exit)) (goAt range (now (file .entry)) (now (form .entry)) (now (s .entry)) (now (o .entry)) budget) ⌝ }
+// ---- a run of a running state that passes the test: what it reads is filled once, then at most budget steps
+
+// Of a small file. (Less is cleared for its code. And a function that is called once is compiled as a part of its caller: called from two
+// places, `run` stays a function of its own, with machine code that nothing else in the call changes.)
+fn run_small(file: &[u8], t: Tables, form: &[u8], s: &mut [u8], o: &mut [u8], budget: u64) -> u64
+    requires { ⌜ Ready (now file) t × (blocks (now file) ≤ smallBlocks) ⌝ ∗ ⌜ Passes (moduleOf (now file)) (now s) × (view (now s) .status ≡ 0) ⌝ ∗ ⌜ length (now o) ≡ outputBytes ⌝ }
+    ensures { λ n. ⌜ Came (moduleOf (now (file .entry))) (now (form .entry)) (now (s .entry)) (now (o .entry)) budget n (now (s .exit)) (now (o .exit)) ⌝ }
+{
+    let starts = t.starts;
+    let extents = t.extents;
+    let mut code = [0u64; SMALL_WORDS];
+    let mut functions = [0u64; CALLEES];
+    let mut given = [0u8; CALLEES];
+    let mut own = [0u8; CALLEES];
+    fill(
+        file,
+        t.terms,
+        t.structs,
+        t.functions,
+        &starts,
+        &extents,
+        &mut code,
+        &mut functions,
+        &mut given,
+        &mut own,
+    );
+    run(
+        file,
+        t.terms,
+        t.structs,
+        &extents,
+        &code,
+        &functions,
+        &given,
+        &own,
+        form,
+        s,
+        o,
+        budget,
+    )
+}
+
+// Of any file.
+fn run_large(file: &[u8], t: Tables, form: &[u8], s: &mut [u8], o: &mut [u8], budget: u64) -> u64
+    requires { ⌜ Ready (now file) t ⌝ ∗ ⌜ Passes (moduleOf (now file)) (now s) × (view (now s) .status ≡ 0) ⌝ ∗ ⌜ length (now o) ≡ outputBytes ⌝ }
+    ensures { λ n. ⌜ Came (moduleOf (now (file .entry))) (now (form .entry)) (now (s .entry)) (now (o .entry)) budget n (now (s .exit)) (now (o .exit)) ⌝ }
 {
     let starts = t.starts;
     let extents = t.extents;
@@ -81,7 +121,7 @@ fn go_running(
         &mut given,
         &mut own,
     );
-    let n = run(
+    run(
         file,
         t.terms,
         t.structs,
@@ -94,7 +134,35 @@ fn go_running(
         s,
         o,
         budget,
-    );
+    )
+}
+
+// Of a file of either size.
+fn run_sized(file: &[u8], t: Tables, form: &[u8], s: &mut [u8], o: &mut [u8], budget: u64) -> u64
+    requires { ⌜ Ready (now file) t ⌝ ∗ ⌜ Passes (moduleOf (now file)) (now s) × (view (now s) .status ≡ 0) ⌝ ∗ ⌜ length (now o) ≡ outputBytes ⌝ }
+    ensures { λ n. ⌜ Came (moduleOf (now (file .entry))) (now (form .entry)) (now (s .entry)) (now (o .entry)) budget n (now (s .exit)) (now (o .exit)) ⌝ }
+{
+    if file.len() / BLOCK_BYTES <= SMALL_BLOCKS {
+        run_small(file, t, form, s, o, budget)
+    } else {
+        run_large(file, t, form, s, o, budget)
+    }
+}
+
+// Of a running state that passes the test: its run, and the answer.
+fn go_running(
+    range: PageRange,
+    file: &[u8],
+    t: Tables,
+    form: &[u8],
+    s: &mut [u8],
+    o: &mut [u8],
+    budget: u64,
+) -> Went
+    requires { ⌜ Ready (now file) t ⌝ ∗ ⌜ Passes (moduleOf (now file)) (now s) × (view (now s) .range ≡ range) ⌝ ∗ ⌜ (view (now s) .status ≡ 0) × (length (now form) ≤ mostForm) × (length (now o) ≡ outputBytes) ⌝ }
+    ensures { λ r. ⌜ WentBy r (now (s .entry)) (now (s .exit)) (now (o .entry)) (now (o .exit)) (goAt range (now (file .entry)) (now (form .entry)) (now (s .entry)) (now (o .entry)) budget) ⌝ }
+{
+    let n = run_sized(file, t, form, s, o, budget);
     answer(s, n)
 }
 
