@@ -38,17 +38,17 @@ pub fn word_at(s: &[u8], i: usize) -> u32
     wide(s[i]) + wide(s[i + 1]) * 256 + wide(s[i + 2]) * 65536 + wide(s[i + 3]) * 16777216
 }
 
-// The primitive of w bytes from i on: 1, 2, else 4.
+// The primitive of w bytes from i on: 1, 2, else 4, which is asked first: it is the most frequent.
 pub fn load(s: &[u8], i: usize, w: u64) -> u32
     requires { ⌜ i + widthOf w ≤ length (now s) ⌝ }
     ensures { λ r. ⌜ r ≡ number (widthOf w) (now (s .entry)) i ⌝ }
 {
-    if w == 1 {
-        wide(s[i])
-    } else if w == 2 {
-        half_at(s, i)
-    } else {
+    if (w != 1) & (w != 2) {
         word_at(s, i)
+    } else if w == 1 {
+        wide(s[i])
+    } else {
+        half_at(s, i)
     }
 }
 
@@ -125,17 +125,17 @@ pub fn put_word(s: &mut [u8], i: usize, v: u32)
     s[i] = low(v);
 }
 
-// v as the primitive of w bytes from i on: 1, 2, else 4.
+// v as the primitive of w bytes from i on: 1, 2, else 4, which is asked first likewise.
 pub fn store(s: &mut [u8], i: usize, w: u64, v: u32)
     requires { ⌜ i + widthOf w ≤ length (now s) ⌝ }
     ensures { λ _. ⌜ now (s .exit) ≡ put (widthOf w) (now (s .entry)) i v ⌝ }
 {
-    if w == 1 {
-        s[i] = low(v);
-    } else if w == 2 {
-        put_half(s, i, v);
-    } else {
+    if (w != 1) & (w != 2) {
         put_word(s, i, v);
+    } else if w == 1 {
+        s[i] = low(v);
+    } else {
+        put_half(s, i, v);
     }
 }
 
