@@ -1,8 +1,8 @@
--- The work of list.asm in Lua.
+-- The work of list.asm in Lua 5.4 and LuaJIT. The sums stay below 2^32, so nothing has to cut them to 32 bits.
 local function walk(node)
     local sum = 0
     repeat
-        sum = (sum + node.value) & 0xffffffff
+        sum = sum + node.value
         node = node.next
     until not node
     return sum
@@ -16,13 +16,13 @@ local function round(seed)
     end
     local sum = 0
     for _ = 1, 3 do
-        sum = (sum + walk(head)) & 0xffffffff
+        sum = sum + walk(head)
     end
     return sum
 end
 
 local sum = 0
 for left = 600, 1, -1 do
-    sum = (sum + round(left)) & 0xffffffff
+    sum = sum + round(left)
 end
 print(sum)

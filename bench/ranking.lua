@@ -1,4 +1,5 @@
--- The work of ranking.asm in Lua. The number printed is ranking.asm's plus the output's bytes, each times its place from 1.
+-- The work of ranking.asm in Lua 5.4 and LuaJIT. The number printed is ranking.asm's plus the output's bytes, each times its place
+-- from 1. It stays below 2^32, so nothing has to cut it to 32 bits.
 local form = { 64 }
 for record = 0, 63 do
     form[#form + 1] = (record * 37 + 11) % 16
@@ -35,9 +36,9 @@ end
 
 local sum = 0
 for _ = 1, 500 do
-    sum = (sum + rank()) & 0xffffffff
+    sum = sum + rank()
 end
 for place = 1, written do
-    sum = (sum + place * output[place]) & 0xffffffff
+    sum = sum + place * output[place]
 end
 print(sum)

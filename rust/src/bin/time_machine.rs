@@ -1,10 +1,11 @@
 //! Processor time of the machines on the workloads of bench/, best of several rounds in one run: the
 //! plain C interpreter, the proved machine through its C interface (with the feature `librcm`), the
-//! reference interpreter, and the same work in WebAssembly and in Lua where their programs are
-//! there. `time_machine FOLDER [ROUNDS [COLUMNS]]`, COLUMNS being how many of these machines are
-//! timed. Times are divided by the module's steps; a ratio is the speed beside plain C's: above 1 is
-//! faster. Without COLUMNS a second table follows: what a new object costs, by the clock, in a region
-//! whose first pages are full.
+//! reference interpreter, and the same work in WebAssembly, in Lua 5.4 and in LuaJIT's interpreter
+//! (its compiler off; not the integer loop) where their programs are there. `time_machine FOLDER
+//! [ROUNDS [COLUMNS]]`, COLUMNS being how many of these machines are timed. Times are divided by the
+//! module's steps; a ratio is the speed beside plain C's: above 1 is faster; `-` is not timed. Without
+//! COLUMNS a second table follows: what a new object costs, by the clock, in a region whose first
+//! pages are full.
 
 use reference::compare::{Interface, Reference};
 use reference::host::{self, Answer};
@@ -136,9 +137,15 @@ impl Work {
         time
     }
 
-    fn time_lua(&self) -> Duration {
+    fn time_lua(&self, command: &mut Command) -> Duration {
         let text = self.folder.join(self.name).with_extension("lua");
-        self.time_there(Command::new("lua5.4").arg(text))
+        self.time_there(command.arg(text))
+    }
+
+    /// LuaJIT with its compiler off. It has no integers of 64 bits and no bitwise operators, so it
+    /// cannot run the integer loop's text, whose products need 62 bits: its numbers are exact to 53.
+    fn time_luajit(&self) -> Option<Duration> {
+        (self.name != "loop").then(|| self.time_lua(Command::new("luajit").arg("-joff")))
     }
 }
 
@@ -203,39 +210,44 @@ impl Room {
     }
 }
 
-/// A machine's name, the time of one run of a workload, and that of the objects where it has them.
-type Column = (&'static str, fn(&Work) -> Duration, Option<fn(&Room) -> Duration>);
+/// A machine's name, the time of one run of a workload where it can run it, and that of the objects
+/// where it has them.
+type Column = (&'static str, fn(&Work) -> Option<Duration>, Option<fn(&Room) -> Duration>);
 
 fn columns() -> Vec<Column> {
     let mut columns: Vec<Column> =
-        vec![("plain C", |work| work.time_here(plain_run), Some(Room::time_plain))];
+        vec![("plain C", |work| Some(work.time_here(plain_run)), Some(Room::time_plain))];
     #[cfg(feature = "librcm")]
     columns.push((
         "proved",
-        |work| work.time_here(|file, form| machine_run(&mut Library, file, form)),
+        |work| Some(work.time_here(|file, form| machine_run(&mut Library, file, form))),
         Some(|room| room.time_here(&mut Library)),
     ));
     columns.push((
         "Rust",
-        |work| work.time_here(|file, form| machine_run(&mut Reference, file, form)),
+        |work| Some(work.time_here(|file, form| machine_run(&mut Reference, file, form))),
         Some(|room| room.time_here(&mut Reference)),
     ));
     let there = |program: &str| Command::new(program).arg("--version").output().is_ok();
     if there("wat2wasm") && there("wasm-interp") {
-        columns.push(("wasm-interp", Work::time_wasm, None));
+        columns.push(("wasm-interp", |work| Some(work.time_wasm()), None));
     }
     if there("lua5.4") {
-        columns.push(("Lua 5.4", Work::time_lua, None));
+        let time = |work: &Work| Some(work.time_lua(&mut Command::new("lua5.4")));
+        columns.push(("Lua 5.4", time, None));
+    }
+    if there("luajit") {
+        columns.push(("LuaJIT-joff", Work::time_luajit, None));
     }
     columns
 }
 
 /// The best of several rounds of each machine, round by round, so that a busy moment meets all alike.
-fn best(rounds: u32, times: &[impl Fn() -> Duration]) -> Vec<Duration> {
-    let mut best = vec![Duration::MAX; times.len()];
+fn best(rounds: u32, times: &[impl Fn() -> Option<Duration>]) -> Vec<Option<Duration>> {
+    let mut best = vec![None; times.len()];
     for _ in 0..rounds {
         for (best, time) in best.iter_mut().zip(times) {
-            *best = time().min(*best);
+            *best = time().into_iter().chain(*best).min();
         }
     }
     best
@@ -250,13 +262,15 @@ fn print_names(title: &str, count: &str, columns: &[Column]) {
 }
 
 /// A line: nanoseconds for each of `count`, and each machine's speed beside the first's.
-fn print_times(title: &str, count: u64, times: &[Duration]) {
-    let each = |time: &Duration| time.as_nanos() as f64 / count as f64;
+fn print_times(title: &str, count: u64, times: &[Option<Duration>]) {
+    let each = |time: Duration| time.as_nanos() as f64 / count as f64;
+    let text = |value: Option<f64>| value.map_or("-".to_string(), |value| format!("{value:.2}"));
     print!("{title:25} {count:9}");
     for (number, time) in times.iter().enumerate() {
-        print!(" {:11.2}", each(time));
+        print!(" {:>11}", text(time.map(each)));
         if number > 0 {
-            print!(" {:6.2}", each(&times[0]) / each(time));
+            let ratio = times[0].zip(*time).map(|(first, time)| each(first) / each(time));
+            print!(" {:>6}", text(ratio));
         }
     }
     println!();
@@ -286,7 +300,7 @@ fn main() {
     for pages in FULL_PAGES {
         let room = &Room::new(&folder, pages);
         let timed = columns.iter().filter_map(|column| column.2);
-        let times: Vec<_> = timed.map(|time| move || time(room)).collect();
+        let times: Vec<_> = timed.map(|time| move || Some(time(room))).collect();
         print_times(&format!("behind {pages} full pages"), OBJECTS, &best(rounds, &times));
     }
 }
