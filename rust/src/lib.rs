@@ -8,6 +8,7 @@ pub mod checker;
 pub mod compare;
 pub mod corpus;
 pub mod damage;
+pub mod digest;
 pub mod file;
 pub mod generator;
 pub mod host;

@@ -2,6 +2,7 @@
 //! decoded. The number and the place are the checker's; the words only follow them.
 
 use super::counted;
+use super::files::MODULE_MAX;
 use crate::checker;
 use crate::file::{block_check, Record, BLOCK_BYTES, CHECK_AT};
 use crate::host::Answer;
@@ -46,6 +47,9 @@ pub fn stop_title(number: u64) -> &'static str {
 
 /// Refusal 20 of a saved state.
 pub fn state_length(state: &[u8]) -> String {
+    if state.len() > STATE_BYTES {
+        return format!("refused 20 0: it has over {STATE_BYTES} bytes, a state has {STATE_BYTES}");
+    }
     format!("refused 20 0: it has {} bytes, a state has {STATE_BYTES}", state.len())
 }
 
@@ -108,6 +112,7 @@ pub fn refusal(file: &[u8], answer: Answer) -> String {
 /// What stands at a refusal's place.
 fn what_stands(file: &[u8], number: u64, place: usize) -> Option<String> {
     match number {
+        1 if file.len() > MODULE_MAX => Some(format!("the file has over {MODULE_MAX} bytes")),
         1 => Some(format!("the file has {} bytes", file.len())),
         2 | 3 => block_text(file, number, place),
         4 => Some(match file_records(file).get(place) {

@@ -1,13 +1,15 @@
 //! `rcm run`: opens a module or goes on from a saved state, shows the answer, writes output and
 //! state. Nothing is written where a call is refused.
 
-use super::{counted, explain, print, read, write, Outcome, Session, Words};
+use super::files::{read, write, Output, FORM_MAX, MODULE_MAX, OUTPUT_MAX, STATE_MAX};
+use super::trace::traced;
+use super::words::{number, Choice};
+use super::{counted, explain, print, Command, Outcome, Session, Words};
 use super::{BAD_INPUT, DONE, REFUSED, RUNNING, STOPPED};
 use crate::compare::Interface;
 use crate::host::{self, Answer};
-use crate::module::{decode, Module, MAX_REGISTERS};
-use crate::state::{self, State, OUTPUT_BYTES, STATE_BYTES};
-use crate::text::Listing;
+use crate::module::{decode, Module};
+use crate::state::{State, OUTPUT_BYTES, STATE_BYTES};
 use std::path::Path;
 
 /// As document 01's program.
@@ -18,15 +20,15 @@ const PIECE: u64 = 20_000_000;
 const SHOWN: usize = 64;
 
 /// What a run is lent and keeps.
-struct Going {
-    file: Vec<u8>,
-    form: Vec<u8>,
-    state: Vec<u8>,
-    output: Vec<u8>,
+pub struct Going {
+    pub file: Vec<u8>,
+    pub form: Vec<u8>,
+    pub state: Vec<u8>,
+    pub output: Vec<u8>,
 }
 
 impl Going {
-    fn go(&mut self, machine: &mut dyn Interface, budget: u64) -> Answer {
+    pub fn go(&mut self, machine: &mut dyn Interface, budget: u64) -> Answer {
         machine.go(&self.file, &self.form, &mut self.state, &mut self.output, budget)
     }
 
@@ -39,34 +41,50 @@ impl Going {
     }
 }
 
-fn number<T: std::str::FromStr>(option: &str, word: &str) -> Result<T, String> {
-    word.replace('_', "").parse().map_err(|_| format!("{option} wants a number, not `{word}`"))
-}
-
 /// Numbers with commas, each 4 bytes; below zero they are in two's complement.
 fn argument_bytes(word: &str) -> Result<Vec<u8>, String> {
     let mut bytes = Vec::new();
     for part in word.split(',').filter(|part| !part.is_empty()) {
         let value: i64 = number("--arguments", part)?;
-        let word = u32::try_from(value).or_else(|_| i32::try_from(value).map(|value| value as u32));
+        let word = u32::try_from(value).or_else(|_| i32::try_from(value).map(i32::cast_unsigned));
         let word = word.map_err(|_| format!("--arguments: {part} does not fit 4 bytes"))?;
         bytes.extend(word.to_le_bytes());
     }
     Ok(bytes)
 }
 
-pub fn run(words: &[String], session: &mut Session) -> Outcome {
-    let known = ["--budget", "--arguments", "--state", "--output", "--trace"];
-    let words = Words::new(words, &known)?;
+pub const RUN: Command = Command {
+    name: "run",
+    takes: "MODULE FORM",
+    options: &[
+        Choice::valued("--budget", "N", "at most N steps, by default 1,000,000"),
+        Choice::valued("--arguments", "N,N,..", "function 0's arguments"),
+        Choice::valued(
+            "--state",
+            "FILE",
+            "goes on from the state in FILE if it is there, and saves the state to it",
+        ),
+        Choice::valued(
+            "--output",
+            "FILE",
+            "writes the output to FILE; without it the new bytes are shown",
+        ),
+        Choice::valued("--trace", "N", "prints the last N steps"),
+    ],
+    does: "opens and runs, or goes on from the state in FILE if it is there",
+    run,
+};
+
+fn run(words: &Words, session: &mut Session) -> Outcome {
     let [module_name, form_name] = words.exactly(["MODULE", "FORM"])?;
-    let budget = words.option("--budget").map_or(Ok(DEFAULT_BUDGET), |w| number("--budget", w))?;
-    let trace = words.option("--trace").map_or(Ok(0), |word| number("--trace", word))?;
-    let (file, form) = (read(module_name)?, read(form_name)?);
+    let budget = words.number("--budget")?.unwrap_or(DEFAULT_BUDGET);
+    let trace = words.number("--trace")?.unwrap_or(0);
+    let (file, form) = (read(module_name, MODULE_MAX)?, read(form_name, FORM_MAX)?);
     let mut going =
         Going { file, form, state: vec![0; STATE_BYTES], output: vec![0; OUTPUT_BYTES] };
     let saved = words.option("--state").filter(|name| Path::new(name).exists());
     match saved {
-        Some(name) => restore(&words, name, &mut going)?,
+        Some(name) => restore(words, name, &mut going)?,
         None => {
             let arguments = argument_bytes(words.option("--arguments").unwrap_or_default())?;
             let machine = session.machine()?;
@@ -91,11 +109,11 @@ pub fn run(words: &[String], session: &mut Session) -> Outcome {
     print(session.out, &answer_text(&module, &going, answer))?;
     let mut files = Vec::new();
     match words.option("--output") {
-        Some(name) => files.push((name, &going.output[..going.written()])),
+        Some(name) => files.push(Output::private(name, &going.output[..going.written()])),
         None => show_output(&going, shown_from, session)?,
     }
-    files.extend(words.option("--state").map(|name| (name, &going.state[..])));
-    write(&files)?;
+    files.extend(words.option("--state").map(|name| Output::private(name, &going.state)));
+    write(&files, session)?;
     Ok(match answer[0] {
         host::ENDED => DONE,
         host::STOPPED => STOPPED,
@@ -105,7 +123,7 @@ pub fn run(words: &[String], session: &mut Session) -> Outcome {
 
 /// Takes a saved state and the output so far, which is not in the state.
 fn restore(words: &Words, name: &str, going: &mut Going) -> Result<(), String> {
-    going.state = read(name)?;
+    going.state = read(name, STATE_MAX)?;
     if going.state.len() != STATE_BYTES {
         return Ok(()); // which the call refuses
     }
@@ -116,7 +134,7 @@ fn restore(words: &Words, name: &str, going: &mut Going) -> Result<(), String> {
     let Some(output) = words.option("--output") else {
         return Ok(());
     };
-    let bytes = if Path::new(output).exists() { read(output)? } else { Vec::new() };
+    let bytes = if Path::new(output).exists() { read(output, OUTPUT_MAX)? } else { Vec::new() };
     if bytes.len() != written {
         let length = bytes.len();
         return Err(format!("{output} has {length} bytes, but {name} has written {written}"));
@@ -183,8 +201,8 @@ fn refused(going: &Going, name: &str, answer: Answer, session: &mut Session) -> 
     let form = going.form.len();
     let message = match number {
         1..=8 => format!("{name}: {}", explain::refusal(&going.file, answer)),
-        9 if form > OUTPUT_BYTES => {
-            format!("refused 9 0: the form has {form} bytes, at most {OUTPUT_BYTES} are taken")
+        9 if form > FORM_MAX => {
+            format!("refused 9 0: the form has over {FORM_MAX} bytes, at most {FORM_MAX} are taken")
         }
         9 => format!("{name}: refused 9 0: {}", wanted_arguments(&going.file)),
         20 => format!("{name}: {}", explain::state_length(&going.state)),
@@ -192,7 +210,7 @@ fn refused(going: &Going, name: &str, answer: Answer, session: &mut Session) -> 
         22 => format!("{name}: refused 22 0: this state has ended or stopped already"),
         _ => format!("refused {number} {place}"),
     };
-    let _ = writeln!(session.error, "rcm: {}", message.trim_end());
+    session.say(&message);
     Ok(if number <= 22 { REFUSED } else { BAD_INPUT })
 }
 
@@ -202,65 +220,5 @@ fn wanted_arguments(file: &[u8]) -> String {
         Ok(1) => "function 0 takes 1 argument: --arguments N".to_string(),
         Ok(count) => format!("function 0 takes {count} arguments: --arguments N,N,.."),
         Err(_) => "the arguments do not fit".to_string(),
-    }
-}
-
-/// The last steps of a run in the text form, found by running it again up to them.
-fn traced(
-    module: &Module,
-    going: &Going,
-    before: Vec<u8>,
-    steps: u64,
-    last: u64,
-    machine: &mut dyn Interface,
-) -> String {
-    let mut again = Going {
-        file: going.file.clone(),
-        form: going.form.clone(),
-        state: before,
-        output: vec![0; OUTPUT_BYTES],
-    };
-    let from = steps.saturating_sub(last);
-    if from > 0 {
-        again.go(machine, from);
-    }
-    let mut text = String::new();
-    for step in from..steps {
-        let Ok(view) = State::from_bytes(&again.state) else { break };
-        again.go(machine, 1);
-        let after = State::from_bytes(&again.state).ok();
-        text += &step_text(module, step + 1, &view, after.as_ref());
-    }
-    text
-}
-
-/// One step: its number, function and instruction, and the register that it changes. A new object's
-/// register is shown also where it had that address before, and so is whether bytes were cleared.
-fn step_text(module: &Module, step: u64, before: &State, after: Option<&State>) -> String {
-    let Some(frame) = before.frames.last() else {
-        return String::new();
-    };
-    let function = &module.functions[usize::from(frame.function)];
-    let instruction = &function.code[usize::from(frame.instruction)];
-    let text = Listing::new(module, true).instruction_text(function, instruction);
-    let depth = before.frames.len();
-    let changed = after.and_then(|after| {
-        let now = after.frames.get(depth - 1)?;
-        let handed_out = instruction.kind == 27 && after.status == state::RUNNING;
-        let register = if handed_out {
-            usize::from(instruction.a)
-        } else {
-            (0..MAX_REGISTERS).find(|&i| now.registers[i] != frame.registers[i])?
-        };
-        // Without a grant only the object's own bytes can have changed.
-        let reused = handed_out && after.owners == before.owners;
-        let cleared = if reused && after.memory != before.memory { ", cleared" } else { "" };
-        Some(format!("r{register} = {}{cleared}", now.registers[register]))
-    });
-    let place = format!("f{}:{}", frame.function, frame.instruction);
-    let line = format!("{step:>9}  {place:8} {:indent$}{text}", "", indent = depth - 1);
-    match changed {
-        Some(changed) => format!("{line:48}  {changed}\n"),
-        None => format!("{line}\n"),
     }
 }

@@ -3,13 +3,18 @@
 
 mod assembly;
 mod explain;
+mod files;
 mod going;
+mod json;
 mod pages;
 mod picture;
+mod trace;
 mod verdict;
+mod words;
 
 use crate::compare::Interface;
 use std::io::Write;
+use words::{Choice, Words};
 
 /// Exit statuses: done, accepted or ended.
 pub const DONE: u8 = 0;
@@ -19,16 +24,66 @@ pub const REFUSED: u8 = 2;
 pub const STOPPED: u8 = 3;
 pub const RUNNING: u8 = 4;
 
-const USAGE: &str = "\
-usage: rcm asm FILE -o MODULE        the module file of a text
-       rcm dis MODULE [--raw]        the text of a module file; --raw also lists what is no module
-       rcm check MODULE              the verdict, a refusal in plain words
-       rcm run MODULE FORM [--budget N] [--arguments N,N,..] [--state FILE] [--output FILE] [--trace N]
-                                     opens and runs, or goes on from the state in FILE if it is there
-       rcm pages MODULE STATE [--address A] [--svg FILE]
-                                     the memory of a state: a table, the object at an address, a picture
-exit status: 0 done, accepted or ended; 1 wrong usage or bad input; 2 refused; 3 stopped; 4 running
+/// A command: the words it takes as the usage shows them, its options, and what it does.
+pub struct Command {
+    pub name: &'static str,
+    pub takes: &'static str,
+    pub options: &'static [Choice],
+    pub does: &'static str,
+    run: fn(&Words, &mut Session) -> Outcome,
+}
+
+/// All commands, in the order of the usage.
+pub const COMMANDS: [&Command; 5] =
+    [&assembly::ASM, &assembly::DIS, &verdict::CHECK, &going::RUN, &pages::PAGES_COMMAND];
+
+const STATUSES: &str = "\
+exit status: 0 done, accepted or ended; 1 wrong usage or bad input; 2 refused; 3 stopped; 4 running;
+             130 or 143 interrupted, and what was reached is saved
 ";
+
+const FILES: &str = "`-` as a file is standard input or output; an option's value may stand behind `=`; numbers may be hexadecimal (0x2a)\n";
+
+impl Command {
+    /// The command with its words and options on one line.
+    fn line(&self) -> String {
+        let mut line = format!("rcm {}", self.name);
+        if !self.takes.is_empty() {
+            line += &format!(" {}", self.takes);
+        }
+        for option in self.options.iter().filter(|option| !self.takes.contains(option.name)) {
+            let value = option.value.map_or(String::new(), |value| format!(" {value}"));
+            line += &format!(" [{}{value}]{}", option.name, if option.many { ".." } else { "" });
+        }
+        line
+    }
+
+    fn usage(&self) -> String {
+        format!("usage: {}\n", self.line())
+    }
+
+    /// What `rcm COMMAND --help` prints.
+    fn help(&self) -> String {
+        let mut text = format!("{}\n{}\n", self.usage(), self.does);
+        if !self.options.is_empty() {
+            text += "\n";
+        }
+        for option in self.options {
+            let value = option.value.map_or(String::new(), |value| format!(" {value}"));
+            text += &format!("  {:20} {}\n", format!("{}{value}", option.name), option.does);
+        }
+        text
+    }
+}
+
+fn usage() -> String {
+    let mut text = String::new();
+    for (at, command) in COMMANDS.iter().enumerate() {
+        let before = if at == 0 { "usage:" } else { "      " };
+        text += &format!("{before} {}\n{:18}{}\n", command.line(), "", command.does);
+    }
+    text + "       rcm COMMAND --help, rcm --version\n" + FILES + STATUSES
+}
 
 /// What a command is given: the calls, and where it writes.
 pub struct Session<'s> {
@@ -49,6 +104,12 @@ impl Session<'_> {
                 .to_string()),
         }
     }
+
+    /// Prints a message on standard error.
+    fn say(&mut self, message: &str) {
+        // Nothing is left to do if standard error is closed.
+        let _ = writeln!(self.error, "rcm: {}", message.trim_end());
+    }
 }
 
 /// A command's exit status, or the message of what is wrong with its input.
@@ -57,23 +118,42 @@ type Outcome = Result<u8, String>;
 /// Runs a command line without the program's name; gives the exit status.
 pub fn run(words: &[String], session: &mut Session) -> u8 {
     let outcome = match words.split_first() {
-        Some((command, rest)) => match command.as_str() {
-            "asm" => assembly::asm(rest, session),
-            "dis" => assembly::dis(rest, session),
-            "check" => verdict::check(rest, session),
-            "run" => going::run(rest, session),
-            "pages" => pages::pages(rest, session),
-            "help" | "--help" | "-h" => print(session.out, USAGE),
-            _ => Err(format!("there is no command `{command}`\n{USAGE}")),
-        },
-        None => Err(format!("a command is wanted\n{USAGE}")),
+        Some((first, rest)) => command(first, rest, session),
+        None => Err(format!("a command is wanted\n{}", usage())),
     };
     outcome.unwrap_or_else(|message| {
-        // Nothing is left to do if standard error is closed.
-        let _ = writeln!(session.error, "rcm: {}", message.trim_end());
+        session.say(&message);
         BAD_INPUT
     })
 }
+
+fn command(first: &str, rest: &[String], session: &mut Session) -> Outcome {
+    match first {
+        "help" | "--help" | "-h" => return print(session.out, &usage()),
+        "--version" | "-V" => return print(session.out, &version(session.machine.is_some())),
+        _ => (),
+    }
+    let Some(command) = COMMANDS.iter().find(|command| command.name == first) else {
+        return Err(format!("there is no command `{first}`\n{}", usage()));
+    };
+    if rest.iter().any(|word| word == "--help" || word == "-h") {
+        return print(session.out, &command.help());
+    }
+    (command.run)(&Words::new(command, rest)?, session)
+}
+
+/// The version, the edition of the specification that it follows, and what decides.
+fn version(library: bool) -> String {
+    let decides = match library {
+        true => "with the proved library",
+        false => "without the proved library: asm and dis alone",
+    };
+    let version = env!("CARGO_PKG_VERSION");
+    format!("rcm {version}, edition {EDITION} (document 01 with P1 and P2), {decides}\n")
+}
+
+/// The edition of the specification.
+pub const EDITION: u32 = 2;
 
 fn print(out: &mut dyn Write, text: &str) -> Outcome {
     out.write_all(text.as_bytes()).map_err(|error| format!("writing: {error}"))?;
@@ -82,73 +162,4 @@ fn print(out: &mut dyn Write, text: &str) -> Outcome {
 
 fn counted(count: u64, what: &str) -> String {
     format!("{count} {what}{}", if count == 1 { "" } else { "s" })
-}
-
-fn read(name: &str) -> Result<Vec<u8>, String> {
-    std::fs::read(name).map_err(|error| format!("{name}: {error}"))
-}
-
-/// Writes files whole: all of them beside their places first, so that a failure leaves what was
-/// there.
-fn write(files: &[(&str, &[u8])]) -> Result<(), String> {
-    let beside = |name: &str| format!("{name}.part");
-    let write_all = || {
-        for (name, bytes) in files {
-            std::fs::write(beside(name), bytes).map_err(|error| format!("{name}: {error}"))?;
-        }
-        for (name, _) in files {
-            std::fs::rename(beside(name), name).map_err(|error| format!("{name}: {error}"))?;
-        }
-        Ok(())
-    };
-    let written = write_all();
-    if written.is_err() {
-        for (name, _) in files {
-            let _ = std::fs::remove_file(beside(name));
-        }
-    }
-    written
-}
-
-/// Words of a command line: those that stand alone, and options with their values. A flag has none.
-struct Words<'w> {
-    plain: Vec<&'w str>,
-    options: Vec<(&'w str, &'w str)>,
-}
-
-const FLAGS: [&str; 1] = ["--raw"];
-
-impl<'w> Words<'w> {
-    /// Each known option takes a value, flags do not; other words that begin with `-` are refused.
-    fn new(words: &'w [String], known: &[&str]) -> Result<Words<'w>, String> {
-        let mut found = Words { plain: Vec::new(), options: Vec::new() };
-        let mut words = words.iter().map(String::as_str);
-        while let Some(word) = words.next() {
-            if found.option(word).is_some() {
-                return Err(format!("{word} is given twice"));
-            } else if known.contains(&word) && FLAGS.contains(&word) {
-                found.options.push((word, ""));
-            } else if known.contains(&word) {
-                let value = words.next().ok_or(format!("{word} wants a value\n{USAGE}"))?;
-                found.options.push((word, value));
-            } else if word.len() > 1 && word.starts_with('-') {
-                return Err(format!("there is no option `{word}` here\n{USAGE}"));
-            } else {
-                found.plain.push(word);
-            }
-        }
-        Ok(found)
-    }
-
-    fn option(&self, name: &str) -> Option<&'w str> {
-        self.options.iter().find(|(option, _)| *option == name).map(|(_, value)| *value)
-    }
-
-    /// The words that stand alone: one for each of these.
-    fn exactly<const N: usize>(&self, wanted: [&str; N]) -> Result<[&'w str; N], String> {
-        let (found, names) = (self.plain.len(), wanted.join(" "));
-        let wrong =
-            |_| format!("wanted: {names}; {} given\n{USAGE}", counted(found as u64, "file"));
-        self.plain.clone().try_into().map_err(wrong)
-    }
 }

@@ -2,8 +2,10 @@
 //! (`picture.rs`). An object's place and size are the reader's; owners and marks are read from the
 //! state's bytes (docs/STATE.md).
 
+use super::files::{distinct, read, write, Output, MODULE_MAX, STATE_MAX};
 use super::picture::picture;
-use super::{counted, explain, print, read, write, Outcome, Session, Words, DONE, REFUSED};
+use super::words::Choice;
+use super::{counted, explain, print, Command, Outcome, Session, Words, DONE, REFUSED};
 use crate::compare::Interface;
 use crate::host;
 use crate::module::{decode, Module};
@@ -50,16 +52,24 @@ pub struct View<'m> {
     pub object: Option<Object>,
 }
 
-pub fn pages(words: &[String], session: &mut Session) -> Outcome {
-    let words = Words::new(words, &["--address", "--svg"])?;
+pub const PAGES_COMMAND: Command = Command {
+    name: "pages",
+    takes: "MODULE STATE",
+    options: &[
+        Choice::valued("--address", "A", "shows the object around an address"),
+        Choice::valued("--svg", "FILE", "draws the memory"),
+    ],
+    does: "the memory of a state: a table, the object at an address, a picture",
+    run: pages,
+};
+
+fn pages(words: &Words, session: &mut Session) -> Outcome {
     let [module_name, state_name] = words.exactly(["MODULE", "STATE"])?;
-    let (file, bytes) = (read(module_name)?, read(state_name)?);
-    let address: Option<u32> = match words.option("--address") {
-        Some(word) => {
-            Some(word.parse().map_err(|_| format!("--address wants a number, not `{word}`"))?)
-        }
-        None => None,
-    };
+    let picture_name = words.option("--svg");
+    let outputs: Vec<_> = picture_name.iter().map(|name| ("picture", *name)).collect();
+    distinct(&[("module", module_name), ("state", state_name)], &outputs)?;
+    let (file, bytes) = (read(module_name, MODULE_MAX)?, read(state_name, STATE_MAX)?);
+    let address: Option<u32> = words.number("--address")?;
     let answer = session.machine()?.test(&file, &bytes);
     if answer[0] == host::REFUSED {
         let message = match answer[1] {
@@ -67,7 +77,7 @@ pub fn pages(words: &[String], session: &mut Session) -> Outcome {
             21 => format!("{state_name}: refused 21 0: this is no sound state of {module_name}"),
             _ => format!("{module_name}: {}", explain::refusal(&file, answer)),
         };
-        let _ = writeln!(session.error, "rcm: {}", message.trim_end());
+        session.say(&message);
         return Ok(REFUSED);
     }
     let module = decode(&file).map_err(|_| "the module does not decode".to_string())?;
@@ -80,8 +90,8 @@ pub fn pages(words: &[String], session: &mut Session) -> Outcome {
     if let Some(address) = address {
         print(session.out, &view.object_text(address))?;
     }
-    if let Some(name) = words.option("--svg") {
-        write(&[(name, picture(&view).as_bytes())])?;
+    if let Some(name) = picture_name {
+        write(&[Output::new(name, picture(&view).as_bytes())], session)?;
     }
     Ok(DONE)
 }

@@ -1,11 +1,20 @@
 //! `rcm check`: the verdict on a module, and the rule of a refusal in plain words.
 
-use super::{counted, explain, print, read, Outcome, Session, Words, DONE, REFUSED};
+use super::files::{read, MODULE_MAX};
+use super::{counted, explain, print, Command, Outcome, Session, Words, DONE, REFUSED};
 use crate::host;
 
-pub fn check(words: &[String], session: &mut Session) -> Outcome {
-    let [name] = Words::new(words, &[])?.exactly(["MODULE"])?;
-    let file = read(name)?;
+pub const CHECK: Command = Command {
+    name: "check",
+    takes: "MODULE",
+    options: &[],
+    does: "the verdict, a refusal in plain words",
+    run: check,
+};
+
+fn check(words: &Words, session: &mut Session) -> Outcome {
+    let [name] = words.exactly(["MODULE"])?;
+    let file = read(name, MODULE_MAX)?;
     let answer = session.machine()?.check(&file);
     if answer[0] == host::REFUSED {
         print(session.out, &explain::refusal(&file, answer))?;

@@ -1,0 +1,293 @@
+//! The files that a command reads and writes. Reads are bounded. A file is written whole or not at
+//! all, through links, with the mode and owner that it had; what is no regular file is written
+//! straight; and no output is an input or another output.
+
+use super::Session;
+use crate::file::{BLOCK_BYTES, MAX_BLOCKS};
+use crate::state::{FORM_BYTES, OUTPUT_BYTES, STATE_BYTES};
+use std::ffi::OsString;
+use std::fs::{File, Metadata, OpenOptions};
+use std::io::{ErrorKind, Read, Write};
+use std::os::unix::fs::{fchown, MetadataExt, OpenOptionsExt, PermissionsExt};
+use std::path::{Path, PathBuf};
+
+/// The most bytes that a module, a form, a state and an output can have.
+pub const MODULE_MAX: usize = MAX_BLOCKS * BLOCK_BYTES;
+pub const FORM_MAX: usize = FORM_BYTES;
+pub const STATE_MAX: usize = STATE_BYTES;
+pub const OUTPUT_MAX: usize = OUTPUT_BYTES;
+/// The most bytes of a text that is read: far more than the text of the largest module.
+pub const TEXT_MAX: usize = 1 << 24;
+
+/// Standard input or output.
+pub const STANDARD: &str = "-";
+
+/// Links that are followed, one after the other.
+const LINKS: usize = 40;
+
+const PRIVATE: u32 = 0o600;
+const PUBLIC: u32 = 0o666;
+/// The bits of a file's mode that say who may do what.
+const PERMISSIONS: u32 = 0o7777;
+
+fn failed(name: &str) -> impl Fn(std::io::Error) -> String + '_ {
+    move |error| format!("{name}: {error}")
+}
+
+/// The bytes of a file, or of standard input. At most one more than `most` is read: whoever is
+/// asked about them refuses what is too long.
+pub fn read(name: &str, most: usize) -> Result<Vec<u8>, String> {
+    let mut bytes = Vec::new();
+    let limit = most as u64 + 1;
+    let read = match name {
+        STANDARD => std::io::stdin().lock().take(limit).read_to_end(&mut bytes),
+        _ => File::open(name).and_then(|file| file.take(limit).read_to_end(&mut bytes)),
+    };
+    read.map_err(failed(name))?;
+    Ok(bytes)
+}
+
+/// The bytes of a file that may be missing.
+pub fn read_if_there(name: &str, most: usize) -> Result<Option<Vec<u8>>, String> {
+    match Path::new(name).try_exists() {
+        Ok(false) if name != STANDARD => Ok(None),
+        _ => read(name, most).map(Some),
+    }
+}
+
+/// A text in UTF-8, without its byte order mark.
+pub fn read_text(name: &str) -> Result<String, String> {
+    let bytes = read(name, TEXT_MAX)?;
+    if bytes.len() > TEXT_MAX {
+        return Err(format!("{name}: expected a text of at most {TEXT_MAX} bytes"));
+    }
+    let text = String::from_utf8(bytes).map_err(|_| format!("{name}: expected a text in UTF-8"))?;
+    Ok(text.strip_prefix('\u{feff}').unwrap_or(&text).to_string())
+}
+
+/// A file's name with an ending behind it: the file that stands beside it.
+pub fn beside(name: &str, ending: &str) -> String {
+    format!("{name}.{ending}")
+}
+
+/// A file of a command: what it is to the command, and its name.
+pub type Role<'f> = (&'f str, &'f str);
+
+/// What makes two names the same file: the file itself where it is there, else the place where it
+/// would be made.
+#[derive(PartialEq, Eq)]
+enum Identity {
+    Standard,
+    There(u64, u64),
+    New(PathBuf),
+}
+
+/// The identity of a regular file or of one that is not there. A device belongs to nobody: it may be
+/// named twice.
+fn identity(name: &str) -> Result<Option<Identity>, String> {
+    if name == STANDARD {
+        return Ok(Some(Identity::Standard));
+    }
+    let path = followed(name)?;
+    Ok(match std::fs::metadata(&path) {
+        Ok(there) if there.is_file() => Some(Identity::There(there.dev(), there.ino())),
+        Ok(_) => None,
+        Err(_) => Some(Identity::New(path)),
+    })
+}
+
+/// Refuses an output that is one of the inputs or another output, whatever they are called, and one
+/// that cannot be written: a folder, or in a folder that is not there.
+pub fn distinct(inputs: &[Role], outputs: &[Role]) -> Result<(), String> {
+    for (at, (what, name)) in outputs.iter().enumerate() {
+        writable(name)?;
+        let Some(own) = identity(name)? else { continue };
+        for (other, other_name) in &outputs[..at] {
+            if identity(other_name)?.as_ref() == Some(&own) {
+                return Err(format!("the {what} {name} and the {other} {other_name} are one file"));
+            }
+        }
+        for (other, other_name) in inputs.iter().filter(|(_, input)| *input != STANDARD) {
+            if identity(other_name)?.as_ref() == Some(&own) {
+                return Err(format!("the {what} {name} is the {other}: it would be overwritten"));
+            }
+        }
+    }
+    let standard = inputs.iter().filter(|(_, name)| *name == STANDARD);
+    match standard.count() {
+        0 | 1 => Ok(()),
+        _ => Err("standard input can be read once: `-` stands for two files here".to_string()),
+    }
+}
+
+/// The folder that a path lies in.
+fn folder(path: &Path) -> &Path {
+    match path.parent() {
+        Some(parent) if !parent.as_os_str().is_empty() => parent,
+        _ => Path::new("."),
+    }
+}
+
+fn writable(name: &str) -> Result<(), String> {
+    if name == STANDARD {
+        return Ok(());
+    }
+    let path = followed(name)?;
+    let folder = std::fs::metadata(folder(&path)).map_err(failed(name))?;
+    if !folder.is_dir() {
+        return Err(format!("{name}: expected a folder before the file's name"));
+    }
+    match std::fs::metadata(&path) {
+        Ok(there) if there.is_dir() => Err(format!("{name}: Is a directory")),
+        _ => Ok(()),
+    }
+}
+
+/// Where a name leads: through links, also where the last one leads to no file yet. The folder is
+/// resolved too, so that one place has one path.
+fn followed(name: &str) -> Result<PathBuf, String> {
+    let mut path = PathBuf::from(name);
+    for _ in 0..LINKS {
+        match std::fs::read_link(&path) {
+            Ok(target) => path = folder(&path).join(target),
+            Err(_) => {
+                let Some(last) = path.file_name() else { return Ok(path) };
+                let folder = std::fs::canonicalize(folder(&path)).map_err(failed(name))?;
+                return Ok(folder.join(last));
+            }
+        }
+    }
+    Err(format!("{name}: too many links, one behind the other"))
+}
+
+/// A file to write. A private one is for its owner alone where it is made anew.
+pub struct Output<'f> {
+    pub name: &'f str,
+    pub bytes: &'f [u8],
+    pub private: bool,
+}
+
+impl<'f> Output<'f> {
+    pub fn new(name: &'f str, bytes: &'f [u8]) -> Output<'f> {
+        Output { name, bytes, private: false }
+    }
+
+    pub fn private(name: &'f str, bytes: &'f [u8]) -> Output<'f> {
+        Output { name, bytes, private: true }
+    }
+}
+
+/// How an output comes to its place.
+enum Way {
+    /// Written whole under another name, which is then given to it.
+    Renamed {
+        from: PathBuf,
+        to: PathBuf,
+    },
+    /// Written where it is: a device or pipe, or a file that a renamed one would not be the same as.
+    Straight(PathBuf),
+    Standard,
+}
+
+/// Writes all of the files: those that can be renamed are written beside their places first, so that
+/// a failure leaves what was there.
+pub fn write(outputs: &[Output], session: &mut Session) -> Result<(), String> {
+    let mut ways = Vec::new();
+    let written = write_beside(outputs, &mut ways).and_then(|()| put(outputs, &ways, session));
+    if written.is_err() {
+        for way in &ways {
+            if let Way::Renamed { from, .. } = way {
+                let _ = std::fs::remove_file(from);
+            }
+        }
+    }
+    written
+}
+
+fn write_beside(outputs: &[Output], ways: &mut Vec<Way>) -> Result<(), String> {
+    for output in outputs {
+        ways.push(way(output).map_err(failed(output.name))?);
+    }
+    Ok(())
+}
+
+fn put(outputs: &[Output], ways: &[Way], session: &mut Session) -> Result<(), String> {
+    for (output, way) in outputs.iter().zip(ways) {
+        match way {
+            Way::Standard => session.out.write_all(output.bytes),
+            Way::Straight(path) => write_straight(path, output.bytes),
+            Way::Renamed { from, to } => std::fs::rename(from, to),
+        }
+        .map_err(failed(output.name))?;
+    }
+    Ok(())
+}
+
+fn write_straight(path: &Path, bytes: &[u8]) -> std::io::Result<()> {
+    let mut file = OpenOptions::new().write(true).truncate(true).open(path)?;
+    file.write_all(bytes)
+}
+
+fn way(output: &Output) -> std::io::Result<Way> {
+    if output.name == STANDARD {
+        return Ok(Way::Standard);
+    }
+    let to = followed(output.name).map_err(std::io::Error::other)?;
+    let there = match std::fs::metadata(&to) {
+        Ok(there) => Some(there),
+        Err(error) if error.kind() == ErrorKind::NotFound => None,
+        Err(error) => return Err(error),
+    };
+    // A file with a second name would lose it.
+    if there.as_ref().is_some_and(|there| !there.is_file() || there.nlink() > 1) {
+        return Ok(Way::Straight(to));
+    }
+    match renamable(output, &to, there.as_ref()) {
+        Ok(from) => Ok(Way::Renamed { from, to }),
+        // Nobody may make files in this folder, or give them to the owner; the file itself may be
+        // written all the same.
+        Err(error) if error.kind() == ErrorKind::PermissionDenied && there.is_some() => {
+            Ok(Way::Straight(to))
+        }
+        Err(error) => Err(error),
+    }
+}
+
+/// A file beside `to` with the output's bytes, and with the mode and owner of the file that is there.
+fn renamable(output: &Output, to: &Path, there: Option<&Metadata>) -> std::io::Result<PathBuf> {
+    let mode = if output.private || there.is_some() { PRIVATE } else { PUBLIC };
+    let mut name = OsString::from(".");
+    name.push(to.file_name().unwrap_or_default());
+    name.push(format!(".{}.part", std::process::id()));
+    let from = folder(to).join(name);
+    let mut file = OpenOptions::new().write(true).create_new(true).mode(mode).open(&from)?;
+    let filled = fill(&mut file, output.bytes, there);
+    match filled {
+        Ok(()) => Ok(from),
+        Err(error) => {
+            let _ = std::fs::remove_file(&from);
+            Err(error)
+        }
+    }
+}
+
+fn fill(file: &mut File, bytes: &[u8], there: Option<&Metadata>) -> std::io::Result<()> {
+    file.write_all(bytes)?;
+    if let Some(there) = there {
+        let made = file.metadata()?;
+        if (made.uid(), made.gid()) != (there.uid(), there.gid()) {
+            fchown(&*file, Some(there.uid()), Some(there.gid()))?;
+        }
+        let mode = std::fs::Permissions::from_mode(there.mode() & PERMISSIONS);
+        file.set_permissions(mode)?;
+    }
+    file.sync_all()
+}
+
+/// Removes a file that stands beside another one, if it is there.
+pub fn remove_if_there(name: &str) -> Result<(), String> {
+    match std::fs::remove_file(name) {
+        Err(error) if error.kind() != ErrorKind::NotFound => Err(failed(name)(error)),
+        _ => Ok(()),
+    }
+}
