@@ -4,8 +4,8 @@
 
 mod common;
 
-use common::{new_folder, repository};
-use reference::tool::{BAD_INPUT, DONE, REFUSED, RUNNING, STOPPED};
+use common::{json, new_folder, rcm_in, repository};
+use reference::tool::{BAD_INPUT, COMMANDS, DONE, REFUSED, RUNNING, STOPPED};
 use std::path::{Path, PathBuf};
 use std::process::Command;
 
@@ -15,16 +15,9 @@ fn folder(name: &str) -> PathBuf {
 
 /// Status, standard output and standard error of a command; words with an `@` in front are files of
 /// the folder.
-fn rcm_on(folder: &Path, line: &str, terminal: bool) -> (u8, String, String) {
-    let words = line.split_whitespace().map(|word| match word.strip_prefix('@') {
-        Some(name) => folder.join(name).display().to_string(),
-        None => word.to_string(),
-    });
-    common::rcm(&words.collect::<Vec<_>>(), terminal)
-}
-
 fn rcm(folder: &Path, line: &str) -> (u8, String, String) {
-    rcm_on(folder, line, false)
+    let ran = rcm_in(folder, line, false);
+    (ran.status, ran.out, ran.error)
 }
 
 /// The module of an example's text as a file of the folder.
@@ -104,7 +97,7 @@ fn runs_in_one_piece_and_from_saved_states() {
     let line = "run @module @form --budget 100 --state @state --output @output";
     for _ in 0..3 {
         let (status, out, error) = rcm(&folder, line);
-        assert_eq!((status, out.as_str()), (RUNNING, "running 100\n"), "{error}");
+        assert_eq!((status, out.lines().next()), (RUNNING, Some("running 100")), "{error}");
     }
     assert_eq!(rcm(&folder, line).1, "ended 6 35\n");
     assert_eq!(std::fs::read(folder.join("output")).expect("the output"), b"bedacf");
@@ -127,10 +120,9 @@ fn arguments_trace_and_progress() {
     assert_eq!(lines.len(), 4);
     assert!(lines[1].contains("f0:1") && lines[1].ends_with("r0 = 1"), "{out}");
     assert!(lines[2].ends_with("goto L1") && lines[3] == "running 5", "{out}");
-    let (status, out, error) =
-        rcm_on(&folder, "run @module @form --arguments 0,0 --budget 45_000_000", true);
-    assert_eq!((status, out.as_str()), (RUNNING, "running 45000000\n"));
-    assert!(error.starts_with("\r20000000 steps\r40000000 steps\r"), "{error:?}");
+    let ran = rcm_in(&folder, "run @module @form --arguments 0,0 --budget 45_000_000", true);
+    assert_eq!((ran.status, ran.out.as_str()), (RUNNING, "running 45000000\n"));
+    assert!(ran.error.starts_with("\r20000000 steps\r40000000 steps\r"), "{:?}", ran.error);
     for (line, message) in [
         ("run @module @form", "function 0 takes 2 arguments"),
         ("run @module @form --arguments 1", "function 0 takes 2 arguments"),
@@ -172,6 +164,7 @@ fn bad_input_writes_nothing() {
     assert_eq!(rcm(&folder, "run @module @form --budget 50 --state @state").0, RUNNING);
     std::fs::rename(folder.join("module"), folder.join("list")).expect("a file");
     example(&folder, "pool.asm");
+    std::fs::copy(folder.join("state"), folder.join("foreign")).expect("a file");
     std::fs::write(folder.join("short"), [0; 100]).expect("a file");
     std::fs::write(folder.join("long"), [0; 4097]).expect("a file");
     std::fs::write(folder.join("text"), "fn f() -> i32 {\n    r = 1\n}\n").expect("a file");
@@ -180,8 +173,9 @@ fn bad_input_writes_nothing() {
     for (line, status, message) in [
         ("", BAD_INPUT, "a command is wanted"),
         ("fly", BAD_INPUT, "there is no command `fly`"),
-        ("check", BAD_INPUT, "wanted: MODULE; 0 files given\nusage"),
+        ("check", BAD_INPUT, "check: wanted: MODULE; 0 files given\nusage: rcm check MODULE"),
         ("check @list @list", BAD_INPUT, "wanted: MODULE; 2 files given\nusage"),
+        ("dis @list --raw=yes", BAD_INPUT, "--raw takes no value"),
         ("check .", BAD_INPUT, "Is a directory"),
         ("check @absent", BAD_INPUT, "No such file"),
         ("dis @absent", BAD_INPUT, "No such file"),
@@ -190,7 +184,7 @@ fn bad_input_writes_nothing() {
         ("asm @text", BAD_INPUT, "-o MODULE is wanted"),
         ("asm @text -o @new", BAD_INPUT, "text:1:4: expected at least one register"),
         ("asm @list -o @new", BAD_INPUT, "expected a text in UTF-8"),
-        ("asm @text -o @absent/new", BAD_INPUT, "expected at least one register"),
+        ("asm @text -o @absent/new", BAD_INPUT, "No such file"),
         ("run @module", BAD_INPUT, "wanted: MODULE FORM; 1 file given\nusage"),
         ("run @module @form --budget 1 --budget 2", BAD_INPUT, "--budget is given twice"),
         ("run @module @form --state . --arguments 1", BAD_INPUT, "Is a directory"),
@@ -199,15 +193,15 @@ fn bad_input_writes_nothing() {
         ("run @module @form --budget", BAD_INPUT, "--budget wants a value"),
         ("run @module @form --budget -1", BAD_INPUT, "wants a number"),
         ("run @text @form --state @new --output @out", REFUSED, "refused 1 0"),
-        ("run @module @long --state @new --output @out", REFUSED, "the form has 4097 bytes"),
+        ("run @module @long --state @new --output @out", REFUSED, "the form has over 4096 bytes"),
         (
             "run @module @form --state @short --output @out",
             REFUSED,
             "short: refused 20 0: it has 100",
         ),
-        ("run @module @form --state @state --output @out", REFUSED, "refused 21 0"),
-        ("run @list @form --state @state --arguments 1", BAD_INPUT, "has its arguments already"),
-        ("run @list @form --state @state --output @short", BAD_INPUT, "has written 0"),
+        ("run @module @form --state @state --output @out", BAD_INPUT, "a state of another module"),
+        ("run @module @form --state @foreign --output @out", REFUSED, "refused 21 0"),
+        ("run @list @form --state @state --arguments 1", BAD_INPUT, "was opened with no arguments"),
         ("pages @module @short --svg @picture", REFUSED, "short: refused 20 0: it has 100"),
         ("pages @module @state --svg @picture", REFUSED, "refused 21 0"),
         ("pages @list @state --address x --svg @picture", BAD_INPUT, "wants a number"),
@@ -215,8 +209,7 @@ fn bad_input_writes_nothing() {
     ] {
         let (found, out, error) = rcm(&folder, line);
         assert_eq!(found, status, "{line}\n{error}");
-        // An answer that cannot be saved is shown.
-        assert!(out.is_empty() || out == "ended 256 17\n", "{line}\n{out}");
+        assert!(out.is_empty(), "{line}\n{out}");
         assert!(error.contains(message), "{line}\n{error}");
         assert_eq!(files(&folder), before, "{line}");
         assert_eq!(std::fs::read(folder.join("state")).expect("the state"), state, "{line}");
@@ -248,6 +241,55 @@ fn pages_show_regions_and_objects() {
     assert!(rcm(&folder, "pages @module @state --address 16384")
         .1
         .contains("no object lies there"));
+}
+
+#[test]
+fn words_options_and_help() {
+    let folder = folder("words");
+    example(&folder, "ranking.asm");
+    std::fs::copy(repository().join("examples/ranking.form"), folder.join("form")).expect("a form");
+    for line in [
+        "run @module @form --budget 100",
+        "run @module @form --budget=100",
+        "run --budget=0x64 @module @form",
+        "run --budget 0X6_4 -- @module @form",
+    ] {
+        let (status, out, error) = rcm(&folder, line);
+        assert_eq!((status, out.lines().next()), (RUNNING, Some("running 100")), "{line}\n{error}");
+    }
+    let version = env!("CARGO_PKG_VERSION");
+    assert!(rcm(&folder, "--version").1.starts_with(&format!("rcm {version}, edition 2 ")));
+    let all = rcm(&folder, "--help").1;
+    for command in COMMANDS {
+        let usage = format!("rcm {} ", command.name);
+        let (status, help, error) = rcm(&folder, &format!("{} --help", command.name));
+        assert_eq!((status, error.as_str()), (DONE, ""), "{}", command.name);
+        assert!(help.starts_with(&format!("usage: {usage}")) && all.contains(&usage), "{help}");
+        for option in command.options {
+            assert!(help.contains(&format!("  {} ", option.name)), "{help}");
+        }
+    }
+}
+
+/// JSON by another reader's judgement: python3 prints what it finds there.
+#[test]
+fn answers_as_json() {
+    let folder = folder("json");
+    let form = repository().join("examples/ranking.form").display().to_string();
+    example(&folder, "ranking.asm");
+    let found = |line: &str, path: &str| json(&rcm(&folder, line).1, path);
+    let whole = format!("run @module {form} --json");
+    assert_eq!(
+        found(&whole, "['answer'], v['value'], v['steps'], v['partial']"),
+        "('ended', 6, 335, False)"
+    );
+    assert_eq!(found(&whole, "['output']"), "[98, 101, 100, 97, 99, 102]");
+    let part = format!("run @module {form} --json --budget 310 --trace 2");
+    assert_eq!(found(&part, "['answer'], v['partial'], len(v['trace'])"), "('running', True, 2)");
+    assert_eq!(found(&part, "['interrupted'], v['output']"), "(False, [98, 101, 100])");
+    example(&folder, "stops/33-index.asm");
+    let stopped = "run @module @form --json";
+    assert_eq!(found(stopped, "['answer'], v['number'], v['steps']"), "('stopped', 33, 3)");
 }
 
 /// The program itself as it is built without the library.

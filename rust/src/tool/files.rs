@@ -65,6 +65,11 @@ pub fn read_text(name: &str) -> Result<String, String> {
     Ok(text.strip_prefix('\u{feff}').unwrap_or(&text).to_string())
 }
 
+/// A regular file is there under this name, or none yet.
+pub fn standing(name: &str) -> bool {
+    std::fs::metadata(name).map_or(true, |there| there.is_file())
+}
+
 /// A file's name with an ending behind it: the file that stands beside it.
 pub fn beside(name: &str, ending: &str) -> String {
     format!("{name}.{ending}")
@@ -214,7 +219,7 @@ fn write_beside(outputs: &[Output], ways: &mut Vec<Way>) -> Result<(), String> {
 fn put(outputs: &[Output], ways: &[Way], session: &mut Session) -> Result<(), String> {
     for (output, way) in outputs.iter().zip(ways) {
         match way {
-            Way::Standard => session.out.write_all(output.bytes),
+            Way::Standard => super::put(session.out, output.bytes),
             Way::Straight(path) => write_straight(path, output.bytes),
             Way::Renamed { from, to } => std::fs::rename(from, to),
         }

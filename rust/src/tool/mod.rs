@@ -8,12 +8,13 @@ mod going;
 mod json;
 mod pages;
 mod picture;
+mod saved;
 mod trace;
 mod verdict;
 mod words;
 
 use crate::compare::Interface;
-use std::io::Write;
+use std::io::{ErrorKind, Write};
 use words::{Choice, Words};
 
 /// Exit statuses: done, accepted or ended.
@@ -93,6 +94,9 @@ pub struct Session<'s> {
     pub error: &'s mut dyn Write,
     /// Standard error is a terminal.
     pub terminal: bool,
+    /// The exit status of a signal that asked the tool to end since a run began, if one has. Asked
+    /// between the slices of a run.
+    pub interrupted: fn() -> Option<u8>,
 }
 
 impl Session<'_> {
@@ -156,8 +160,16 @@ fn version(library: bool) -> String {
 pub const EDITION: u32 = 2;
 
 fn print(out: &mut dyn Write, text: &str) -> Outcome {
-    out.write_all(text.as_bytes()).map_err(|error| format!("writing: {error}"))?;
+    put(out, text.as_bytes()).map_err(|error| format!("writing: {error}"))?;
     Ok(DONE)
+}
+
+/// Writes to a stream. Whoever reads it may close it early: then nobody wants the rest.
+fn put(out: &mut dyn Write, bytes: &[u8]) -> std::io::Result<()> {
+    match out.write_all(bytes).and_then(|()| out.flush()) {
+        Err(error) if error.kind() == ErrorKind::BrokenPipe => Ok(()),
+        result => result,
+    }
 }
 
 fn counted(count: u64, what: &str) -> String {

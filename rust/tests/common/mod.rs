@@ -14,6 +14,7 @@ use reference::tool;
 use reference::types::{sizes, Live};
 use std::ops::Range;
 use std::path::{Path, PathBuf};
+use std::process::Command;
 
 pub const I32: u8 = 0;
 pub const I8: u8 = 1;
@@ -150,11 +151,42 @@ pub fn rcm<S: ToString>(words: &[S], terminal: bool) -> (u8, String, String) {
     let words: Vec<String> = words.iter().map(S::to_string).collect();
     let (mut out, mut error) = (Vec::new(), Vec::new());
     let mut machine = machine();
-    let mut session =
-        tool::Session { machine: Some(&mut machine), out: &mut out, error: &mut error, terminal };
+    let mut session = tool::Session {
+        machine: Some(&mut machine),
+        out: &mut out,
+        error: &mut error,
+        terminal,
+        interrupted: || None,
+    };
     let status = tool::run(&words, &mut session);
     let text = |bytes: Vec<u8>| String::from_utf8(bytes).expect("text");
     (status, text(out), text(error))
+}
+
+/// What the tool gave: its status, standard output and standard error.
+pub struct Ran {
+    pub status: u8,
+    pub out: String,
+    pub error: String,
+}
+
+/// The tool on a line of words; those with an `@` in front are files of the folder.
+pub fn rcm_in(folder: &Path, line: &str, terminal: bool) -> Ran {
+    let words = line.split_whitespace().map(|word| match word.strip_prefix('@') {
+        Some(name) => folder.join(name).display().to_string(),
+        None => word.to_string(),
+    });
+    let (status, out, error) = rcm(&words.collect::<Vec<_>>(), terminal);
+    Ran { status, out, error }
+}
+
+/// What python3 prints for a part of a JSON text; the text is `v` and the part is written behind it.
+pub fn json(text: &str, part: &str) -> String {
+    let program = "import json, sys\nv = json.loads(sys.argv[1])\nprint(eval('v' + sys.argv[2]))";
+    let output = Command::new("python3").args(["-c", program, text, part]).output();
+    let output = output.expect("python3");
+    assert!(output.status.success(), "{text}\n{}", String::from_utf8_lossy(&output.stderr));
+    String::from_utf8(output.stdout).expect("text").trim_end().to_string()
 }
 
 pub fn repository() -> PathBuf {
