@@ -129,6 +129,8 @@ fn no_output_is_an_input_or_another_output() {
     symlink("form", folder.join("link")).expect("a link");
     fs::hard_link(folder.join("form"), folder.join("name")).expect("a second name");
     good(&folder, "run @module @form --budget 9 --state @state --output @list", RUNNING);
+    fs::write(folder.join("mine.info"), b"my notes").expect("a file");
+    fs::write(folder.join("mine.partial"), b"my notes").expect("a file");
     for (line, message) in [
         ("run @module @form --output @form", "is the form: it would be overwritten"),
         ("run @module @form --output @link", "is the form: it would be overwritten"),
@@ -143,7 +145,9 @@ fn no_output_is_an_input_or_another_output() {
         ("run @module @form --state @list.partial --output @list", "are one file"),
         ("run @module @form --output @absent/list", "No such file or directory"),
         ("run @module @form --output @form/list", "expected a folder before the file's name"),
-        ("run @module @form --state .", "Is a directory"),
+        ("run @module @form --state .", "expected a file, found a folder"),
+        ("run @module @form --state @mine", "mine.info: expected what a saved state belongs to"),
+        ("run @module @form --output @mine", "mine.partial: expected the mark of a partial output"),
         ("run @module @form --state -", "--state wants a file"),
         ("run - -", "standard input can be read once"),
         ("asm @text -o @text", "is the text: it would be overwritten"),
@@ -166,7 +170,7 @@ fn modes_and_owners_are_kept() {
     fs::write(path("other"), []).expect("a file");
     assert_eq!(mode(&path("module")), mode(&path("other")));
     set_mode(&path("list"), 0o640);
-    set_mode(&path("state"), 0o444);
+    set_mode(&path("state"), 0o604);
     set_mode(&path("module"), 0o755);
     if is_root() {
         chown(path("list"), Some(12_345), Some(54_321)).expect("an owner");
@@ -175,10 +179,18 @@ fn modes_and_owners_are_kept() {
     let before = owner("list").expect("an owner");
     good(&folder, line, DONE);
     good(&folder, "asm @text -o @module", DONE);
-    assert_eq!((mode(&path("list")), mode(&path("state"))), (0o640, 0o444));
+    assert_eq!((mode(&path("list")), mode(&path("state"))), (0o640, 0o604));
     assert_eq!(mode(&path("module")), 0o755);
     assert_eq!(owner("list").expect("an owner"), before);
     assert_eq!(fs::read(path("list")).expect("the list"), LIST);
+    // What is closed to writing stays as it is; the superuser may write it all the same.
+    fs::write(path("closed"), b"old").expect("a file");
+    set_mode(&path("closed"), 0o400);
+    if !is_root() {
+        bad(&folder, "run @module @form --output @closed", "Permission denied");
+    }
+    let files = contents(&folder);
+    assert!(!files.iter().any(|(name, _)| name.to_string_lossy().ends_with(".part")));
 }
 
 #[test]

@@ -187,7 +187,7 @@ fn bad_input_writes_nothing() {
         ("asm @text -o @absent/new", BAD_INPUT, "No such file"),
         ("run @module", BAD_INPUT, "wanted: MODULE FORM; 1 file given\nusage"),
         ("run @module @form --budget 1 --budget 2", BAD_INPUT, "--budget is given twice"),
-        ("run @module @form --state . --arguments 1", BAD_INPUT, "Is a directory"),
+        ("run @module @form --state . --arguments 1", BAD_INPUT, "found a folder"),
         ("run @module @absent --state @new", BAD_INPUT, "No such file"),
         ("run @module @form --fast 1", BAD_INPUT, "there is no option `--fast` here"),
         ("run @module @form --budget", BAD_INPUT, "--budget wants a value"),

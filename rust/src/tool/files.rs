@@ -143,7 +143,11 @@ fn writable(name: &str) -> Result<(), String> {
         return Err(format!("{name}: expected a folder before the file's name"));
     }
     match std::fs::metadata(&path) {
-        Ok(there) if there.is_dir() => Err(format!("{name}: Is a directory")),
+        Ok(there) if there.is_dir() => Err(format!("{name}: expected a file, found a folder")),
+        // A file that its owner has closed to writing stays as it is, though its folder is open.
+        Ok(there) if there.is_file() => {
+            OpenOptions::new().write(true).open(&path).map(|_| ()).map_err(failed(name))
+        }
         _ => Ok(()),
     }
 }
@@ -261,17 +265,29 @@ fn way(output: &Output) -> std::io::Result<Way> {
 /// A file beside `to` with the output's bytes, and with the mode and owner of the file that is there.
 fn renamable(output: &Output, to: &Path, there: Option<&Metadata>) -> std::io::Result<PathBuf> {
     let mode = if output.private || there.is_some() { PRIVATE } else { PUBLIC };
-    let mut name = OsString::from(".");
-    name.push(to.file_name().unwrap_or_default());
-    name.push(format!(".{}.part", std::process::id()));
-    let from = folder(to).join(name);
-    let mut file = OpenOptions::new().write(true).create_new(true).mode(mode).open(&from)?;
-    let filled = fill(&mut file, output.bytes, there);
-    match filled {
+    let (mut file, from) = new_beside(to, mode)?;
+    match fill(&mut file, output.bytes, there) {
         Ok(()) => Ok(from),
         Err(error) => {
             let _ = std::fs::remove_file(&from);
             Err(error)
+        }
+    }
+}
+
+/// A new file in the same folder, under a name that nobody has.
+fn new_beside(to: &Path, mode: u32) -> std::io::Result<(File, PathBuf)> {
+    let mut number = std::process::id();
+    loop {
+        let mut name = OsString::from(".");
+        name.push(to.file_name().unwrap_or_default());
+        name.push(format!(".{number}.part"));
+        let from = folder(to).join(name);
+        match OpenOptions::new().write(true).create_new(true).mode(mode).open(&from) {
+            Ok(file) => return Ok((file, from)),
+            // Left there by a program that was killed.
+            Err(error) if error.kind() == ErrorKind::AlreadyExists => number += 1,
+            Err(error) => return Err(error),
         }
     }
 }

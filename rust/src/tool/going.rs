@@ -23,8 +23,9 @@ pub const DEFAULT_BUDGET: u64 = 1_000_000;
 const SLICE: u64 = 20_000_000;
 /// Bytes of the output that are shown where it is not written to a file.
 const SHOWN: usize = 64;
-/// The ending of the file that stands beside an output which is not whole.
+/// The ending of the file that stands beside an output which is not whole, and how it begins.
 const PARTIAL: &str = "partial";
+const MARKS: [&str; 2] = ["running", "stopped"];
 
 pub const BUDGET: Choice = Choice::valued("--budget", "N", "at most N steps, by default 1,000,000");
 pub const ARGUMENTS: Choice = Choice::valued("--arguments", "N,N,..", "function 0's arguments");
@@ -192,7 +193,22 @@ impl<'w> Names<'w> {
             partial: beside_output.map(|name| beside(name, PARTIAL)),
         };
         names.distinct()?;
+        names.own()?;
         Ok(names)
+    }
+
+    /// What will be written beside state and output is not somebody else's file.
+    fn own(&self) -> Result<(), String> {
+        info_of(self)?;
+        let Some(name) = &self.partial else { return Ok(()) };
+        let Some(bytes) = read_if_there(name, saved::INFO_MAX)? else { return Ok(()) };
+        let ours = MARKS.iter().any(|mark| bytes.starts_with(mark.as_bytes()));
+        match ours {
+            true => Ok(()),
+            false => {
+                Err(format!("{name}: expected the mark of a partial output; this file is another"))
+            }
+        }
     }
 
     fn distinct(&self) -> Result<(), String> {
@@ -304,7 +320,8 @@ fn info_of(names: &Names) -> Result<Option<Info>, String> {
     match info {
         Some(info) => Ok(Some(info)),
         None => Err(format!(
-            "{name}: expected what a saved state belongs to; remove this file to go on without it"
+            "{name}: expected what a saved state belongs to, found another file; \
+             remove it to go on without it"
         )),
     }
 }
@@ -391,11 +408,12 @@ fn save(
 
 /// What stands beside an output that is not whole.
 fn mark_text(went: &Went) -> String {
+    let [running, stopped] = MARKS;
     match went.answer {
         [host::STOPPED, number, ..] => {
-            format!("stopped {number}: {}\n", explain::stop_title(number))
+            format!("{stopped} {number}: {}\n", explain::stop_title(number))
         }
-        _ => "running: the module has not ended\n".to_string(),
+        _ => format!("{running}: the module has not ended\n"),
     }
 }
 
