@@ -15,15 +15,11 @@
 #include <stdlib.h>
 #include <string.h>
 
-enum { REFUSED = 0, GOOD = 1, ENDED = 2, STOPPED = 3, RUNNING = 4 };
-
 enum { EXIT_DONE = 0, EXIT_BAD = 1, EXIT_REFUSED = 2, EXIT_STOPPED = 3, EXIT_RUNNING = 4 };
-
-enum { MODULE_MAX = 64 * 512, ARGUMENTS_MAX = 7 };
 
 /* What the calls are lent. A file and a form have room for one byte more than is taken, so that a longer one is refused and not cut. */
 static struct {
-    uint8_t module[MODULE_MAX + 1];
+    uint8_t module[RCM_MODULE_MAX + 1];
     size_t module_length;
     uint8_t form[RCM_FORM_MAX + 1];
     size_t form_length;
@@ -85,27 +81,21 @@ static uint64_t number(const char *word, uint64_t most)
     return value;
 }
 
-/* How many bytes of the output the module has written so far: bytes 2 and 3 of the state (docs/STATE.md). */
-static size_t output_count(void)
-{
-    return host.state[2] + 256u * host.state[3];
-}
-
 /* Whom a refusal concerns. Nothing has run, and no byte has changed. */
 static const char *advice(uint64_t refusal)
 {
     switch (refusal) {
-    case 1:
-    case 2:
-    case 3:
+    case RCM_REFUSAL_LENGTH:
+    case RCM_REFUSAL_BLOCK_PLACE:
+    case RCM_REFUSAL_BLOCK_CHECK:
         return "the module file is damaged: ask for it again";
-    case 9:
+    case RCM_REFUSAL_INPUT:
         return "the arguments do not fit function 0, or the form is too long";
-    case 20:
+    case RCM_REFUSAL_BUFFER:
         return "the state or the output has a wrong length";
-    case 21:
+    case RCM_REFUSAL_STATE:
         return "the state is not one of this module, or is damaged: take an older save, or open anew";
-    case 22:
+    case RCM_REFUSAL_FINISHED:
         return "the module has already ended or stopped: open anew";
     default:
         return "the module breaks a rule: for the laboratory (rcm check says which)";
@@ -119,28 +109,25 @@ static int refused(const uint64_t answer[4])
 }
 
 /* The state and output of the last save, or of a module opened just now. */
-static int take_up(const char *state_name, const char *output_name, char **arguments, int count)
+static int take_up(const char *state_name, const char *output_name, char **arguments, size_t count)
 {
     uint64_t answer[4];
-    uint8_t bytes[4 * ARGUMENTS_MAX + 1];
+    uint8_t bytes[RCM_ARGUMENT_BYTES * RCM_ARGUMENTS_MAX];
     if (read_file(state_name, 1, host.state, sizeof host.state, &host.state_length)) {
         size_t length = 0;
         read_file(output_name, 1, host.output, sizeof host.output, &length);
         rcm_test(host.module, host.module_length, host.state, host.state_length, answer);
-        if (answer[0] == GOOD && length < output_count()) {
+        if (answer[0] == RCM_GOOD && length < rcm_state_output_count(host.state)) {
             fprintf(stderr, "coordinator: %s lacks bytes that the module has written\n", output_name);
             exit(EXIT_BAD);
         }
-        return answer[0] == GOOD ? EXIT_DONE : refused(answer);
+        return answer[0] == RCM_GOOD ? EXIT_DONE : refused(answer);
     }
-    for (int i = 0; i < count; i++) {
-        uint64_t value = number(arguments[i], UINT32_MAX);
-        for (int byte = 0; byte < 4; byte++)
-            bytes[4 * i + byte] = (uint8_t)(value >> (8 * byte));
-    }
+    for (size_t place = 0; place < count; place++)
+        rcm_put_argument(bytes, place, (uint32_t)number(arguments[place], UINT32_MAX));
     host.state_length = RCM_STATE_BYTES;
-    rcm_open(host.module, host.module_length, bytes, 4 * (size_t)count, host.state, host.state_length, answer);
-    return answer[0] == GOOD ? EXIT_DONE : refused(answer);
+    rcm_open(host.module, host.module_length, bytes, RCM_ARGUMENT_BYTES * count, host.state, host.state_length, answer);
+    return answer[0] == RCM_GOOD ? EXIT_DONE : refused(answer);
 }
 
 /* One call, then the save. The output goes first: a state without its output's bytes could not go on, an output that is ahead of its
@@ -148,20 +135,20 @@ static int take_up(const char *state_name, const char *output_name, char **argum
 static int go_on(const char *state_name, const char *output_name, uint64_t steps)
 {
     uint64_t answer[4];
-    size_t before = output_count();
+    size_t before = rcm_state_output_count(host.state);
     rcm_go(host.module, host.module_length, host.form, host.form_length, host.state, host.state_length, host.output, sizeof host.output,
            steps, answer);
-    if (answer[0] == REFUSED)
+    if (answer[0] == RCM_REFUSED)
         return refused(answer);
-    fwrite(host.output + before, 1, output_count() - before, stdout);
+    fwrite(host.output + before, 1, rcm_state_output_count(host.state) - before, stdout);
     fflush(stdout);
-    save_file(output_name, host.output, output_count());
+    save_file(output_name, host.output, rcm_state_output_count(host.state));
     save_file(state_name, host.state, host.state_length);
     switch (answer[0]) {
-    case ENDED:
+    case RCM_ENDED:
         fprintf(stderr, "ended %" PRIu64 " %" PRIu64 "\n", answer[1], answer[2]);
         return EXIT_DONE;
-    case STOPPED:
+    case RCM_STOPPED:
         fprintf(stderr, "stopped %" PRIu64 " %" PRIu64 "\n", answer[1], answer[2]);
         return EXIT_STOPPED;
     default:
@@ -175,7 +162,7 @@ static int run(int count, char **words)
     read_file(words[1], 0, host.form, sizeof host.form, &host.form_length);
     uint64_t steps = number(words[4], UINT64_MAX);
     uint64_t slices = number(words[5], UINT64_MAX);
-    int status = take_up(words[2], words[3], words + 6, count - 6);
+    int status = take_up(words[2], words[3], words + 6, (size_t)count - 6);
     if (status != EXIT_DONE)
         return status;
     for (status = EXIT_RUNNING; status == EXIT_RUNNING && slices > 0; slices--)
@@ -190,7 +177,7 @@ static int object(char **words)
     read_file(words[0], 0, host.module, sizeof host.module, &host.module_length);
     read_file(words[1], 0, host.state, sizeof host.state, &host.state_length);
     rcm_object(host.module, host.module_length, host.state, host.state_length, (uint32_t)number(words[2], UINT32_MAX), answer);
-    if (answer[0] != GOOD) {
+    if (answer[0] != RCM_GOOD) {
         fprintf(stderr, "no object lies there\n");
         return EXIT_REFUSED;
     }
@@ -201,7 +188,7 @@ static int object(char **words)
 
 int main(int count, char **words)
 {
-    if (count >= 8 && count <= 8 + ARGUMENTS_MAX && strcmp(words[1], "run") == 0)
+    if (count >= 8 && count <= 8 + RCM_ARGUMENTS_MAX && strcmp(words[1], "run") == 0)
         return run(count - 2, words + 2);
     if (count == 5 && strcmp(words[1], "object") == 0)
         return object(words + 2);

@@ -13,12 +13,9 @@
 #include <string.h>
 
 enum {
-    MOST_FILE = 64 * 512,
     MEMORY_AT = 8192,
     MEMORY_BYTES = 16384
 };
-
-enum { REFUSED = 0, GOOD = 1, ENDED = 2, STOPPED = 3, RUNNING = 4 };
 
 /* A lent buffer, of its exact length, so that the sanitizer sees a byte read or written beside it. */
 struct buffer {
@@ -98,7 +95,7 @@ static void refused(struct buffer file, struct buffer form, struct buffer state,
     struct buffer old_state = copy_of(state);
     struct buffer old_output = copy_of(output);
     go(file, form, state, output, 1, answer);
-    expect(answer[0] == REFUSED && answer[1] == number, what);
+    expect(answer[0] == RCM_REFUSED && answer[1] == number, what);
     expect(same(state, old_state) && same(output, old_output), what);
     free(old_state.bytes);
     free(old_output.bytes);
@@ -114,11 +111,11 @@ static void refusals(struct buffer file, struct buffer form, struct buffer state
     struct buffer other_state = copy_of(state);
     bad_state.bytes[63] = 1; /* a spare byte */
     other_state.bytes[9] = 1; /* not all pages */
-    refused(file, long_form, state, output, 9, "a form of 4,097 bytes");
-    refused(file, form, state, short_output, 20, "an output of 4,095 bytes");
-    refused(file, form, short_state, output, 20, "a state of 24,575 bytes");
-    refused(file, form, bad_state, output, 21, "a spare byte that is set");
-    refused(file, form, other_state, output, 21, "a state of a machine with fewer pages");
+    refused(file, long_form, state, output, RCM_REFUSAL_INPUT, "a form of 4,097 bytes");
+    refused(file, form, state, short_output, RCM_REFUSAL_BUFFER, "an output of 4,095 bytes");
+    refused(file, form, short_state, output, RCM_REFUSAL_BUFFER, "a state of 24,575 bytes");
+    refused(file, form, bad_state, output, RCM_REFUSAL_STATE, "a spare byte that is set");
+    refused(file, form, other_state, output, RCM_REFUSAL_STATE, "a state of a machine with fewer pages");
     free(long_form.bytes);
     free(bad_state.bytes);
     free(other_state.bytes);
@@ -131,7 +128,7 @@ static uint64_t inspect(struct buffer file, struct buffer state)
     for (uint32_t address = 0; address < MEMORY_BYTES; address += 61) {
         uint64_t answer[4];
         rcm_object(file.bytes, file.length, state.bytes, state.length, address, answer);
-        if (answer[0] != GOOD)
+        if (answer[0] != RCM_GOOD)
             continue;
         uint64_t at = MEMORY_AT + (uint64_t)address;
         expect(answer[1] <= at && at < answer[1] + answer[2], "the part of an address");
@@ -144,18 +141,26 @@ static uint64_t inspect(struct buffer file, struct buffer state)
 static void print_answer(const uint64_t answer[4])
 {
     switch (answer[0]) {
-    case REFUSED:
+    case RCM_REFUSED:
         printf("refused %" PRIu64 " %" PRIu64 "\n", answer[1], answer[2]);
         break;
-    case ENDED:
+    case RCM_ENDED:
         printf("ended %" PRIu64 " %" PRIu64 "\n", answer[1], answer[2]);
         break;
-    case STOPPED:
+    case RCM_STOPPED:
         printf("stopped %" PRIu64 " %" PRIu64 "\n", answer[1], answer[2]);
         break;
     default:
         printf("running %" PRIu64 "\n", answer[2]);
     }
+}
+
+/* What the header's accessors say of a state after a call of going on is what the call answered. */
+static void accessors(const uint8_t *state, const uint64_t answer[4])
+{
+    expect(rcm_state_status(state) == answer[0], "the status of a state");
+    expect(rcm_state_stop(state) == (answer[0] == RCM_STOPPED ? answer[1] : 0), "the stop of a state");
+    expect(rcm_state_result(state) == (answer[0] == RCM_ENDED ? answer[1] : 0), "the result of a state");
 }
 
 /* The run of 1,000,000 steps again, in calls of 0, 1 and then many steps: the same state and output. */
@@ -164,18 +169,18 @@ static void split(struct buffer file, struct buffer form, struct buffer state, s
     uint64_t answer[4];
     struct buffer before = copy_of(state);
     go(file, form, state, output, 0, answer);
-    expect(answer[0] == RUNNING && answer[2] == 0 && same(state, before), "a budget of 0");
+    expect(answer[0] == RCM_RUNNING && answer[2] == 0 && same(state, before), "a budget of 0");
     uint64_t taken = 0;
     uint64_t budget = 1;
     do {
         refusals(file, form, state, output);
         go(file, form, state, output, budget, answer);
-        expect(answer[0] != REFUSED, "going on");
+        expect(answer[0] != RCM_REFUSED, "going on");
         taken += answer[2];
         budget = taken == 1 ? 1000 : 1000000 - taken;
         test(file, state, answer);
-        expect(answer[0] == GOOD, "the state test after a call");
-    } while (state.bytes[0] == 0 && taken < 1000000);
+        expect(answer[0] == RCM_GOOD, "the state test after a call");
+    } while (rcm_state_status(state.bytes) == RCM_RUNNING && taken < 1000000);
     expect(taken == steps, "the steps of a split budget");
     free(before.bytes);
 }
@@ -188,11 +193,12 @@ static void run(struct buffer file, struct buffer form, struct buffer state, str
     struct buffer second_output = copy_of(output);
     go(file, form, state, output, 1000000, answer);
     print_answer(answer);
-    if (answer[0] != REFUSED) {
+    if (answer[0] != RCM_REFUSED) {
+        accessors(state.bytes, answer);
         split(file, form, second_state, second_output, answer[2]);
         expect(same(state, second_state) && same(output, second_output), "the bytes that a split budget leaves");
-        if (answer[0] != RUNNING)
-            refused(file, form, state, output, 22, "going on after the end");
+        if (answer[0] != RCM_RUNNING)
+            refused(file, form, state, output, RCM_REFUSAL_FINISHED, "going on after the end");
         fprintf(stderr, "host: %" PRIu64 " parts seen by the reader\n", inspect(file, state));
     }
     free(second_state.bytes);
@@ -206,17 +212,20 @@ int main(int argc, char **argv)
         return 2;
     }
     uint64_t answer[4];
-    struct buffer file = read_file(argv[1], MOST_FILE);
+    struct buffer file = read_file(argv[1], RCM_MODULE_MAX);
     struct buffer form = read_file(argv[2], RCM_FORM_MAX);
     struct buffer none = buffer_of(0, 0);
     struct buffer state = buffer_of(RCM_STATE_BYTES, 0xa5);
     struct buffer output = buffer_of(RCM_OUTPUT_BYTES, 0);
     rcm_check(file.bytes, file.length, answer);
-    if (answer[0] == GOOD) {
+    int parameters = rcm_module_parameters(file.bytes, file.length);
+    expect((answer[0] == RCM_GOOD) == (parameters >= 0), "the parameters of an accepted file");
+    if (answer[0] == RCM_GOOD) {
         printf("accepted %" PRIu64 " %" PRIu64 " %" PRIu64 " %" PRIu64 "\n", answer[1], answer[2], answer[3] / 65536, answer[3] % 65536);
         rcm_open(file.bytes, file.length, none.bytes, none.length, state.bytes, state.length, answer);
+        expect((answer[0] == RCM_GOOD) == (parameters == 0), "opening without arguments");
     }
-    if (answer[0] == GOOD)
+    if (answer[0] == RCM_GOOD)
         run(file, form, state, output);
     else
         print_answer(answer);
