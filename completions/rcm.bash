@@ -1,0 +1,44 @@
+# Completion of rcm for bash: commands, their options, numbers for explain. Files are left to readline.
+
+_rcm_options() {
+    case $1 in
+    asm) echo "-o --unchecked --no-map --help" ;;
+    dis) echo "--raw --help" ;;
+    check) echo "--json --help" ;;
+    run) echo "--budget --arguments --state --output --trace --json --help" ;;
+    pages) echo "--address --svg --json --help" ;;
+    list) echo "--budget --arguments --text --csv --json --help" ;;
+    test | explain) echo "--help" ;;
+    esac
+}
+
+_rcm() {
+    local current=${COMP_WORDS[COMP_CWORD]} previous=${COMP_WORDS[COMP_CWORD - 1]} words=
+    COMPREPLY=()
+    # An option's value may stand behind `=`, which is a word of its own here.
+    if [[ $current == = ]]; then
+        current=
+    elif [[ $previous == = ]]; then
+        previous=${COMP_WORDS[COMP_CWORD - 2]}
+    fi
+    if ((COMP_CWORD == 1)); then
+        words="asm dis check run pages test list explain help --help --version"
+    else
+        case $previous in
+        --budget | --arguments | --trace | --address)
+            # A number: no file fits.
+            compopt +o default
+            return 0
+            ;;
+        -o | --state | --output | --svg) return 0 ;;
+        esac
+        if [[ $current == -* ]]; then
+            words=$(_rcm_options "${COMP_WORDS[1]}")
+        elif [[ ${COMP_WORDS[1]} == explain ]]; then
+            words="1 2 3 4 5 6 7 8 9 20 21 22 31 32 33 34 35 36 37 38 39"
+        fi
+    fi
+    mapfile -t COMPREPLY < <(compgen -W "$words" -- "$current")
+}
+
+complete -o default -F _rcm rcm
