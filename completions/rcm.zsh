@@ -2,7 +2,8 @@
 # Completion of rcm for zsh: commands, their options, files, numbers for explain.
 
 _rcm() {
-    local state line
+    local context state state_descr line
+    local -A opt_args
     local -a commands budget
     commands=(
         'asm:the module file of a text'
