@@ -1,0 +1,684 @@
+//! What is installed for hosts: `make install` and what it puts where, hosts in C, C++ and Python
+//! built on it as docs/HOSTS.md says, the header's numbers and texts, the manual pages, completion
+//! and highlighting.
+
+mod common;
+
+use common::{new_folder, rcm, repository};
+use reference::host;
+use reference::module::decode;
+use reference::state::{State, OUTPUT_BYTES, STATE_BYTES};
+use reference::{calls, text};
+use std::collections::{BTreeMap, BTreeSet};
+use std::fs;
+use std::path::{Path, PathBuf};
+use std::process::{Command, Output};
+
+const FORM: &[u8] = b"\x06\x1ea\x5ab\x1ec\x46d\x5ae\x0af";
+
+const STRICT: &str = "-O1 -Wall -Wextra -Wpedantic -Wconversion -Werror";
+
+/// The number of a refusal or a stop with its texts, from c/numbers.def.
+type Numbers = BTreeMap<(String, u64), (String, String)>;
+
+fn numbers() -> Numbers {
+    let lines = fs::read_to_string(repository().join("c/numbers.def")).expect("the numbers");
+    let entry = |line: &str| -> Option<((String, u64), (String, String))> {
+        let (name, rest) = line.split_once('(')?;
+        let (number, rest) = rest.split_once(", \"")?;
+        let (meaning, advice) = rest.strip_suffix("\")")?.split_once("\", \"")?;
+        let key = (name.to_string(), number.parse().ok()?);
+        Some((key, (meaning.to_string(), advice.to_string())))
+    };
+    let lines = lines.lines().filter(|line| !line.starts_with("/*"));
+    lines.map(|line| entry(line).unwrap_or_else(|| panic!("{line}"))).collect()
+}
+
+fn library() -> PathBuf {
+    let folder = std::env::var("RCM_LIB_DIR").expect("RCM_LIB_DIR names the folder of librcm.a");
+    Path::new(&folder).join("librcm.a")
+}
+
+fn example(name: &str) -> Vec<u8> {
+    let path = repository().join("examples").join(name);
+    text::assemble(&fs::read_to_string(path).expect("an example")).expect("a module")
+}
+
+fn lossy(bytes: &[u8]) -> String {
+    String::from_utf8_lossy(bytes).into_owned()
+}
+
+fn finished(what: &str, output: &Output) -> String {
+    let said = lossy(&output.stdout) + &lossy(&output.stderr);
+    assert!(output.status.success(), "{what}\n{said}");
+    said
+}
+
+/// A line for bash in a folder; everything that it prints.
+fn bash(folder: &Path, line: &str) -> String {
+    let shell = Command::new("bash").args(["-euc", line]).current_dir(folder).output();
+    finished(line, &shell.expect("bash"))
+}
+
+/// Whether a program is there. One that is missing is told on standard error: its test is skipped.
+fn has(program: &str) -> bool {
+    let line = format!("command -v {program}");
+    let found = Command::new("bash").args(["-c", &line]).output().expect("bash");
+    if !found.status.success() {
+        eprintln!("install: {program} is missing, and what needs it is not tested");
+    }
+    found.status.success()
+}
+
+/// `make` of the repository into a folder of the test, with these words.
+fn make(folder: &Path, words: &[&str]) -> Output {
+    Command::new("make")
+        .arg(format!("LIB={}", library().display()))
+        .arg(format!("TOOL={}", env!("CARGO_BIN_EXE_rcm")))
+        .arg(format!("BUILD={}", folder.join("build").display()))
+        .args(words)
+        .current_dir(repository())
+        .env_remove("MAKEFLAGS")
+        .output()
+        .expect("make")
+}
+
+/// All files and links below a folder, by their paths in it.
+fn files(folder: &Path) -> BTreeSet<String> {
+    let mut found = BTreeSet::new();
+    let mut folders = vec![folder.to_path_buf()];
+    while let Some(next) = folders.pop() {
+        for entry in fs::read_dir(&next).expect("a folder") {
+            let path = entry.expect("an entry").path();
+            if path.is_dir() && !path.is_symlink() {
+                folders.push(path);
+            } else {
+                found.insert(path.strip_prefix(folder).expect("below").display().to_string());
+            }
+        }
+    }
+    found
+}
+
+#[test]
+fn install_puts_everything_in_its_place_and_uninstall_takes_it_away() {
+    let folder = new_folder("install");
+    let stage = folder.join("stage");
+    let destination = format!("DESTDIR={}", stage.display());
+    let words = ["PREFIX=/usr/local", "PYTHONDIR=/usr/local/python", &destination];
+    finished("install", &make(&folder, &[&["install"], &words[..]].concat()));
+    let expected = [
+        "bin/rcm",
+        "include/rcm.h",
+        "include/rcm_text.h",
+        "lib/cmake/rcm/rcm-config-version.cmake",
+        "lib/cmake/rcm/rcm-config.cmake",
+        "lib/librcm.a",
+        "lib/librcm.so",
+        "lib/librcm.so.0",
+        "lib/librcm.so.0.2.0",
+        "lib/librcm_text.a",
+        "lib/pkgconfig/rcm-text.pc",
+        "lib/pkgconfig/rcm.pc",
+        "python/rcm/__init__.py",
+        "python/rcm/numbers.def",
+        "share/bash-completion/completions/rcm",
+        "share/doc/rcm/CHANGELOG.md",
+        "share/doc/rcm/LICENSE",
+        "share/fish/vendor_completions.d/rcm.fish",
+        "share/man/man1/rcm.1",
+        "share/man/man3/rcm.3",
+        "share/man/man3/rcm_check.3",
+        "share/man/man3/rcm_go.3",
+        "share/man/man3/rcm_object.3",
+        "share/man/man3/rcm_open.3",
+        "share/man/man3/rcm_test.3",
+        "share/zsh/site-functions/_rcm",
+    ];
+    let expected: BTreeSet<String> =
+        expected.iter().map(|name| format!("usr/local/{name}")).collect();
+    assert_eq!(files(&stage), expected);
+    let there = stage.join("usr/local");
+    // The proved archive is the very same file; no file speaks of the stage.
+    assert!(
+        fs::read(there.join("lib/librcm.a")).expect("a file") == fs::read(library()).expect("it")
+    );
+    let stage_name = stage.display().to_string();
+    for name in ["lib/pkgconfig/rcm.pc", "lib/cmake/rcm/rcm-config.cmake"] {
+        let filled = fs::read_to_string(there.join(name)).expect("a file");
+        assert!(!filled.contains(&stage_name) && !filled.contains('@'), "{name}\n{filled}");
+        assert!(filled.contains("/usr/local/lib"), "{name}\n{filled}");
+    }
+    finished("uninstall", &make(&folder, &[&["uninstall"], &words[..]].concat()));
+    assert_eq!(files(&stage), BTreeSet::new());
+    assert!(!there.join("lib/cmake/rcm").exists() && !there.join("python/rcm").exists());
+}
+
+#[test]
+fn the_shared_library_has_its_name_and_exports_the_five_functions() {
+    let folder = new_folder("shared");
+    finished("make", &make(&folder, &[]));
+    let shared = folder.join("build/librcm.so.0.2.0");
+    let exported = bash(&folder, &format!("nm -D --defined-only {}", shared.display()));
+    let exported: BTreeSet<&str> =
+        exported.lines().filter_map(|line| line.split_whitespace().nth(2)).collect();
+    let functions = ["rcm_check", "rcm_go", "rcm_object", "rcm_open", "rcm_test"];
+    assert_eq!(exported, BTreeSet::from(functions));
+    let dynamic = bash(&folder, &format!("readelf -d {}", shared.display()));
+    assert!(dynamic.contains("Library soname: [librcm.so.0]"), "{dynamic}");
+    assert!(!dynamic.contains("TEXTREL"), "{dynamic}");
+}
+
+#[test]
+fn what_is_missing_is_refused_and_nothing_is_installed() {
+    let folder = new_folder("install-refused");
+    let stage = folder.join("stage");
+    let destination = format!("DESTDIR={}", stage.display());
+    for (word, message) in [
+        ("LIB=absent/librcm.a", "LIB=absent/librcm.a: there is no such file"),
+        ("TOOL=absent/rcm", "TOOL=absent/rcm: there is no such file"),
+        ("PREFIX=usr", "PREFIX=usr: expected a path from the root"),
+    ] {
+        let output = make(&folder, &["install", &destination, word]);
+        let error = lossy(&output.stderr);
+        assert!(!output.status.success() && error.contains(message), "{word}\n{error}");
+        assert!(!stage.exists(), "{word}");
+    }
+}
+
+/// The blocks of a page that are files, which begin with a comment that names them, and its
+/// commands, each with what stands below it.
+fn page_parts(page: &str) -> (Vec<(String, String)>, Vec<(String, String)>) {
+    let (mut sources, mut commands) = (Vec::new(), Vec::new());
+    let blocks = page.split("\n\n").fold(Vec::<String>::new(), |mut blocks, part| {
+        // An empty line inside a block does not end it.
+        match blocks.last_mut() {
+            Some(last) if last.starts_with("    ") && part.starts_with("    ") => {
+                *last += &format!("\n\n{part}");
+            }
+            _ => blocks.push(part.to_string()),
+        }
+        blocks
+    });
+    for block in blocks.iter().filter(|block| block.starts_with("    ")) {
+        let text: Vec<&str> = block.lines().map(|line| line.get(4..).unwrap_or("")).collect();
+        let text = text.join("\n") + "\n";
+        if text.starts_with("$ ") {
+            for part in format!("\n{text}").split("\n$ ").skip(1) {
+                let (line, said) = part.split_once('\n').unwrap_or((part, ""));
+                commands.push((line.to_string(), said.trim_end().to_string()));
+            }
+        } else if let Some(name) = text.split_whitespace().nth(1).and_then(|w| w.strip_suffix(':'))
+        {
+            sources.push((name.to_string(), text));
+        }
+    }
+    (sources, commands)
+}
+
+/// Every file and command of docs/HOSTS.md, in one shell, as somebody would type them from a clone;
+/// each prints what stands below it.
+#[test]
+fn the_page_for_hosts_does_what_it_says() {
+    const MARK: &str = "next command";
+    let home = new_folder("hosts");
+    let page = fs::read_to_string(repository().join("docs/HOSTS.md")).expect("the page");
+    let (sources, commands) = page_parts(&page);
+    let names: Vec<&str> = sources.iter().map(|(name, _)| name.as_str()).collect();
+    assert_eq!(names, ["smallest.c", "CMakeLists.txt", "rank.py"]);
+    for (name, source) in &sources {
+        fs::write(home.join(name), source).expect("a file");
+    }
+    let build = home.join("build-of-rcm");
+    let given = format!(
+        " -- LIB={} TOOL={} BUILD={}",
+        library().display(),
+        env!("CARGO_BIN_EXE_rcm"),
+        build.display()
+    );
+    let script: Vec<String> =
+        commands.iter().map(|(line, _)| format!("echo '{MARK}'\n{line}\n")).collect();
+    let shell = Command::new("bash")
+        .args(["-c", &format!("exec 2>&1\n{}", script.concat())])
+        .current_dir(repository())
+        .env("HOME", &home)
+        .env("MAKEFLAGS", &given)
+        .env("PYTHONDONTWRITEBYTECODE", "1")
+        .env_remove("PYTHONPATH")
+        .env_remove("RCM_LIBRARY")
+        .output()
+        .expect("bash");
+    let printed = lossy(&shell.stdout)
+        .replace(&build.display().to_string(), "target/install")
+        .replace(&library().display().to_string(), "target/staticlib/librcm.a")
+        .replace(&home.display().to_string(), "/home/ada");
+    let printed: Vec<&str> =
+        printed.split(&format!("{MARK}\n")).skip(1).map(str::trim_end).collect();
+    assert_eq!(printed.len(), commands.len(), "{printed:?}");
+    for ((line, said), found) in commands.iter().zip(printed) {
+        assert_eq!(said, found, "$ {line}");
+    }
+    // The programs rest on the library that they were asked to.
+    for (program, shared) in [
+        ("smallest", true),
+        ("smallest-static", false),
+        ("smallest-cpp", true),
+        ("build/smallest", true),
+        ("build/smallest-static", false),
+    ] {
+        let dynamic = bash(&home, &format!("readelf -d {program}"));
+        assert_eq!(dynamic.contains("[librcm.so.0]"), shared, "{program}\n{dynamic}");
+    }
+    // CMake sees the package and takes it for no other minor version, and for none that is newer.
+    for version in ["0.1", "0.2.1", "0.3", "1"] {
+        let script = format!(
+            "find_package(rcm {version} QUIET CONFIG PATHS {}/rcm NO_DEFAULT_PATH)\n\
+             message(STATUS \"${{rcm_FOUND}} ${{rcm_CONSIDERED_VERSIONS}}\")\n",
+            home.display()
+        );
+        fs::write(home.join("version.cmake"), script).expect("a file");
+        assert_eq!(bash(&home, "cmake -P version.cmake"), "-- 0 0.2.0\n", "{version}");
+    }
+}
+
+#[test]
+fn the_python_module_passes_its_tests() {
+    let folder = new_folder("python");
+    let prefix = format!("PREFIX={}", folder.join("rcm").display());
+    let modules = format!("PYTHONDIR={}", folder.join("rcm/lib/python3/site-packages").display());
+    finished("install", &make(&folder, &["install", &prefix, &modules]));
+    let sum = "fn sum(a: i32, b: i32) -> i32 {\n a = a + b\n return a\n}\n";
+    for (name, bytes) in [
+        ("ranking", example("ranking.asm")),
+        ("stops", example("stops/33-index.asm")),
+        ("sum", text::assemble(sum).expect("a module")),
+        ("form", FORM.to_vec()),
+    ] {
+        fs::write(folder.join(name), bytes).expect("a file");
+    }
+    // Beside the sources it would try the module that is not installed.
+    fs::copy(repository().join("python/test_rcm.py"), folder.join("test_rcm.py")).expect("a copy");
+    let tests = Command::new("python3")
+        .args(["-B", "test_rcm.py"])
+        .env("PYTHONPATH", folder.join("rcm/lib/python3/site-packages"))
+        .env("RCM_TEST_FILES", &folder)
+        .env_remove("RCM_LIBRARY")
+        .current_dir(&folder)
+        .output()
+        .expect("python3");
+    let said = finished("the tests in Python", &tests);
+    assert!(said.contains("OK") && !said.contains("skipped"), "{said}");
+    // A library that is not there is named.
+    let import = Command::new("python3")
+        .args(["-Bc", "import rcm"])
+        .env("PYTHONPATH", folder.join("rcm/lib/python3/site-packages"))
+        .env("RCM_LIBRARY", "absent.so")
+        .output()
+        .expect("python3");
+    let error = lossy(&import.stderr);
+    let message = "expected the shared library of rcm at absent.so";
+    assert!(!import.status.success() && error.contains(message), "{error}");
+}
+
+/// Compiles a program over the header and the library, strictly and with the address sanitizer.
+fn compile(folder: &Path, source: &str) -> PathBuf {
+    fs::write(folder.join("program.c"), source).expect("a file");
+    let root = repository().display().to_string();
+    let library = library().display().to_string();
+    bash(
+        folder,
+        &format!(
+            "gcc -std=c11 {STRICT} -fsanitize=address -I{root}/include program.c {root}/c/rcm_text.c {library} -o program"
+        ),
+    );
+    folder.join("program")
+}
+
+fn run_program(program: &Path, words: &[&str]) -> String {
+    let folder = program.parent().expect("a folder");
+    let run = Command::new(program).args(words).current_dir(folder).output();
+    finished(&words.join(" "), &run.expect("a run"))
+}
+
+#[test]
+fn the_headers_are_clean_in_c_and_in_cpp() {
+    let folder = new_folder("headers");
+    let include = repository().join("include").display().to_string();
+    let source = "#include <rcm.h>\n#include <rcm_text.h>\nint main(void)\n{\n\
+         uint8_t state[RCM_STATE_BYTES] = {0};\n\
+         return rcm_state_status(state) == RCM_RUNNING && rcm_refusal_text(RCM_REFUSAL_LENGTH) ? 0 : 1;\n}\n";
+    fs::write(folder.join("c.c"), source).expect("a file");
+    fs::write(folder.join("cpp.cpp"), source).expect("a file");
+    bash(&folder, &format!("gcc -std=c11 {STRICT} -I{include} -c c.c -o c.o"));
+    bash(
+        &folder,
+        &format!("g++ -std=c++17 {STRICT} -Wold-style-cast -isystem {include} -c cpp.cpp -o cpp.o"),
+    );
+    bash(&folder, &format!("g++ -std=c++17 {STRICT} -I{include} -c cpp.cpp -o cpp.o"));
+    bash(
+        &folder,
+        &format!("g++ -std=c++17 {STRICT} -I{include} -x c++-header {include}/rcm.h -o rcm.h.gch"),
+    );
+}
+
+/// What the reference interpreter answers to a module of `examples/` that is opened without
+/// arguments and gone on with; the number of the refusal or stop.
+fn number_of(name: &str) -> u64 {
+    let file = example(name);
+    let mut state = vec![0; STATE_BYTES];
+    let opened = host::open(&file, &[], &mut state);
+    match opened[0] {
+        host::GOOD => host::go(&file, FORM, &mut state, &mut vec![0; OUTPUT_BYTES], 1_000_000)[1],
+        _ => opened[1],
+    }
+}
+
+#[test]
+fn the_names_in_the_header_have_the_numbers_of_the_reference() {
+    let folder = new_folder("names");
+    let ranking = example("ranking.asm");
+    let mut state = vec![0; STATE_BYTES];
+    assert_eq!(host::open(&ranking, &[], &mut state)[0], host::GOOD);
+    let mut output = vec![0; OUTPUT_BYTES];
+    let refused = |answer: host::Answer| {
+        assert_eq!(answer[0], host::REFUSED);
+        answer[1]
+    };
+    let mut damaged = state.clone();
+    damaged[63] = 1;
+    let mut expected = vec![
+        ("RCM_REFUSED", host::REFUSED),
+        ("RCM_GOOD", host::GOOD),
+        ("RCM_ENDED", host::ENDED),
+        ("RCM_STOPPED", host::STOPPED),
+        ("RCM_RUNNING", host::STILL_RUNNING),
+        ("RCM_STATE_BYTES", STATE_BYTES as u64),
+        ("RCM_OUTPUT_BYTES", OUTPUT_BYTES as u64),
+        ("RCM_FORM_MAX", reference::state::FORM_BYTES as u64),
+        ("RCM_BLOCK_BYTES", reference::file::BLOCK_BYTES as u64),
+        ("RCM_MODULE_MAX", (reference::file::MAX_BLOCKS * reference::file::BLOCK_BYTES) as u64),
+        ("RCM_ARGUMENTS_MAX", reference::module::MAX_LIST as u64),
+        ("RCM_REFUSAL_INPUT", refused(host::open(&ranking, &[0; 4], &mut state))),
+        ("RCM_REFUSAL_BUFFER", refused(host::test(&ranking, &[]))),
+        ("RCM_REFUSAL_STATE", refused(host::test(&ranking, &damaged))),
+    ];
+    host::go(&ranking, FORM, &mut state, &mut output, 1_000_000);
+    let again = host::go(&ranking, FORM, &mut state, &mut output, 1);
+    expected.push(("RCM_REFUSAL_FINISHED", refused(again)));
+    for (name, example) in [
+        ("RCM_REFUSAL_LENGTH", "refusals/1-length.asm"),
+        ("RCM_REFUSAL_BLOCK_PLACE", "refusals/2-block-place.asm"),
+        ("RCM_REFUSAL_BLOCK_CHECK", "refusals/3-block-check.asm"),
+        ("RCM_REFUSAL_RECORD", "refusals/4-unknown-target.asm"),
+        ("RCM_REFUSAL_TYPE", "refusals/5-no-size.asm"),
+        ("RCM_REFUSAL_FUNCTION", "refusals/6-local-region-leaves.asm"),
+        ("RCM_REFUSAL_INSTRUCTION", "refusals/7-wrong-load.asm"),
+        ("RCM_REFUSAL_CODE_END", "refusals/8-runs-off-the-end.asm"),
+        ("RCM_STOP_ZERO_ADDRESS", "stops/31-zero-address.asm"),
+        ("RCM_STOP_CHECK", "stops/32-check-fails.asm"),
+        ("RCM_STOP_INDEX", "stops/33-index.asm"),
+        ("RCM_STOP_NO_PAGE", "stops/34-no-page.asm"),
+        ("RCM_STOP_FRAMES", "stops/35-frames.asm"),
+        ("RCM_STOP_DIVISION", "stops/36-division.asm"),
+        ("RCM_STOP_SHIFT", "stops/37-shift.asm"),
+        ("RCM_STOP_FORM_END", "stops/38-form-ended.asm"),
+        ("RCM_STOP_OUTPUT_FULL", "stops/39-output-full.asm"),
+    ] {
+        expected.push((name, number_of(example)));
+    }
+    let prints: String = expected
+        .iter()
+        .map(|(name, _)| format!("    printf(\"{name} %llu\\n\", (unsigned long long){name});\n"))
+        .collect();
+    let source = format!(
+        "#include <rcm.h>\n#include <stdio.h>\nint main(void)\n{{\n{prints}    printf(\"%d.%d.%d \" RCM_VERSION \"\\n\", \
+         RCM_VERSION_MAJOR, RCM_VERSION_MINOR, RCM_VERSION_PATCH);\n}}\n"
+    );
+    let mut said: Vec<String> =
+        expected.iter().map(|(name, number)| format!("{name} {number}")).collect();
+    said.push("0.2.0 0.2.0".to_string());
+    let printed = run_program(&compile(&folder, &source), &[]);
+    assert_eq!(printed.lines().collect::<Vec<_>>(), said);
+    // Every name of the header's three enums is here.
+    let header = fs::read_to_string(repository().join("include/rcm.h")).expect("the header");
+    for line in header.lines().filter(|line| line.starts_with("    RCM_") && line.contains(" = ")) {
+        let name = line.split_whitespace().next().expect("a name");
+        assert!(expected.iter().any(|(known, _)| *known == name), "{name}");
+    }
+}
+
+#[test]
+fn the_texts_in_c_are_those_of_the_numbers() {
+    let folder = new_folder("texts");
+    let source = "#include <rcm_text.h>\n#include <stdio.h>\nint main(void)\n{\n    for (uint64_t n = 0; n < 300; n++)\n\
+         printf(\"%s\\n%s\\n%s\\n%s\\n\", rcm_refusal_text(n), rcm_refusal_advice(n), rcm_stop_text(n), rcm_stop_advice(n));\n}\n";
+    let printed = run_program(&compile(&folder, source), &[]);
+    let lines: Vec<&str> = printed.lines().collect();
+    assert_eq!(lines.len(), 1200);
+    let numbers = numbers();
+    for (number, four) in lines.chunks_exact(4).enumerate() {
+        for (name, two) in [("REFUSAL", &four[..2]), ("STOP", &four[2..])] {
+            match numbers.get(&(name.to_string(), number as u64)) {
+                Some((meaning, advice)) => assert_eq!(two, [meaning, advice]),
+                None => assert!(two[0].starts_with("no number of a ") && two[1].ends_with('.')),
+            }
+        }
+    }
+    let refusals = (1..=9).chain(20..=22).map(|number| ("REFUSAL".to_string(), number));
+    let all: BTreeSet<_> =
+        refusals.chain((31..=39).map(|number| ("STOP".to_string(), number))).collect();
+    assert_eq!(numbers.keys().cloned().collect::<BTreeSet<_>>(), all);
+}
+
+/// Prints what the accessors say of the file's and state's bytes, each in a buffer of its exact
+/// length.
+const ACCESSORS: &str = r#"
+#include <rcm.h>
+#include <stdio.h>
+#include <stdlib.h>
+
+static uint8_t *read_file(const char *name, size_t *length)
+{
+    FILE *file = fopen(name, "rb");
+    if (file == NULL || fseek(file, 0, SEEK_END) != 0)
+        exit(1);
+    *length = (size_t)ftell(file);
+    rewind(file);
+    uint8_t *bytes = malloc(*length > 0 ? *length : 1);
+    if (bytes == NULL || fread(bytes, 1, *length, file) != *length)
+        exit(1);
+    fclose(file);
+    return bytes;
+}
+
+int main(int count, char **words)
+{
+    size_t length;
+    for (int word = 1; word < count; word++) {
+        uint8_t *bytes = read_file(words[word], &length);
+        if (length == RCM_STATE_BYTES)
+            printf("%d %d %d %u\n", rcm_state_status(bytes), (int)rcm_state_stop(bytes), (int)rcm_state_output_count(bytes),
+                   (unsigned)rcm_state_result(bytes));
+        else
+            printf("%d\n", rcm_module_parameters(bytes, length));
+        free(bytes);
+    }
+    return 0;
+}
+"#;
+
+/// What the accessors must say of a state, by the reference interpreter's reading of it.
+fn said_of(state: &[u8]) -> String {
+    let view = State::from_bytes(state).expect("a state");
+    let (status, stop) = match view.status {
+        reference::state::RUNNING => (host::STILL_RUNNING, 0),
+        reference::state::ENDED => (host::ENDED, 0),
+        stop => (host::STOPPED, stop),
+    };
+    format!("{status} {stop} {} {}", view.output_count, view.result)
+}
+
+#[test]
+fn the_accessors_say_what_the_reference_reads() {
+    let folder = new_folder("accessors");
+    let program = compile(&folder, ACCESSORS);
+    let mut expected = Vec::new();
+    let mut names = Vec::new();
+    let mut add = |bytes: &[u8], said: String| {
+        let name = format!("file{}", expected.len());
+        fs::write(folder.join(&name), bytes).expect("a file");
+        names.push(name);
+        expected.push(said);
+    };
+    for name in ["ranking.asm", "pool.asm", "stops/33-index.asm", "stops/39-output-full.asm"] {
+        let file = example(name);
+        add(&file, decode(&file).expect("a module").functions[0].parameters.to_string());
+        let mut state = vec![0; STATE_BYTES];
+        let mut output = vec![0; OUTPUT_BYTES];
+        assert_eq!(calls::open(&file, &[], &mut state)[0], host::GOOD);
+        for budget in [0, 7, 200, 1_000_000] {
+            calls::go(&file, FORM, &mut state, &mut output, budget);
+            add(&state, said_of(&state));
+        }
+    }
+    for count in 0..=7 {
+        let parameters: Vec<String> = (0..count).map(|at| format!("p{at}: i32")).collect();
+        let fields = "struct pair {\n x: i32\n y: i16\n}\n";
+        let text = format!(
+            "{fields}fn main({}) -> i32 {{\n reg r: i32\n return r\n}}\n",
+            parameters.join(", ")
+        );
+        add(&text::assemble(&text).expect("a module"), count.to_string());
+    }
+    // What is no module, or is refused; what is no state.
+    let ranking = example("ranking.asm");
+    let mut damaged = ranking.clone();
+    damaged[600] ^= 1;
+    for bad in [&[][..], &[7; 100], &[7; 512], &damaged, &ranking[..ranking.len() - 1]] {
+        add(bad, "-1".to_string());
+    }
+    add(&example("refusals/7-wrong-load.asm"), "-1".to_string());
+    let full = u32::MAX;
+    add(&[0xff; STATE_BYTES], format!("{} 0 {OUTPUT_BYTES} {full}", host::REFUSED));
+    let names: Vec<&str> = names.iter().map(String::as_str).collect();
+    let printed = run_program(&program, &names);
+    assert_eq!(printed.lines().collect::<Vec<_>>(), expected);
+}
+
+/// The options that the tool's own usage names, without what stands behind `=`.
+fn options_of(usage: &str) -> BTreeSet<String> {
+    let words = usage.split(|next: char| !(next.is_ascii_alphanumeric() || next == '-'));
+    words.filter(|word| word.starts_with("--") && word.len() > 2).map(str::to_string).collect()
+}
+
+/// The commands of the tool's usage: the word behind `rcm` on each of its lines.
+fn commands_of(usage: &str) -> BTreeSet<String> {
+    let lines = usage.lines().map(|line| line.trim_start_matches("usage:").trim_start());
+    let words = lines.filter_map(|line| line.strip_prefix("rcm ")?.split_whitespace().next());
+    let commands = words.filter(|word| word.chars().all(|next| next.is_ascii_lowercase()));
+    commands.map(str::to_string).collect()
+}
+
+#[test]
+fn the_manual_and_the_completions_have_every_command_and_option() {
+    let (_, usage, _) = rcm(&["help"], false);
+    let (options, commands) = (options_of(&usage), commands_of(&usage));
+    assert!(options.len() >= 7 && commands.len() >= 5, "{options:?} {commands:?}");
+    for name in ["man/rcm.1", "completions/rcm.bash", "completions/rcm.zsh", "completions/rcm.fish"]
+    {
+        let text = fs::read_to_string(repository().join(name)).expect("a file");
+        let text = text.replace("\\-", "-").replace(" -l ", " --");
+        for word in options.iter().chain(&commands) {
+            assert!(text.contains(word.as_str()), "{name} lacks {word}");
+        }
+    }
+}
+
+#[test]
+fn the_manual_pages_have_no_warnings() {
+    if !has("groff") {
+        return;
+    }
+    for page in ["rcm.1", "rcm.3"] {
+        let said = bash(&repository(), &format!("groff -man -ww -Tutf8 -z man/{page}"));
+        assert_eq!(said, "", "{page}");
+    }
+}
+
+#[test]
+fn the_manual_pages_have_every_number_and_function() {
+    let tool = fs::read_to_string(repository().join("man/rcm.1")).expect("a page");
+    for ((_, number), (meaning, _)) in numbers() {
+        assert!(tool.contains(&format!("\n.B {number}\n{meaning}\n")), "man/rcm.1 lacks {number}");
+    }
+    let library = fs::read_to_string(repository().join("man/rcm.3")).expect("a page");
+    let headers = ["rcm.h", "rcm_text.h"]
+        .map(|name| fs::read_to_string(repository().join("include").join(name)).expect("a header"));
+    let declared = headers.concat();
+    let functions = declared.split(|next: char| !(next.is_ascii_lowercase() || next == '_'));
+    for name in
+        functions.filter(|word| word.starts_with("rcm_") && declared.contains(&format!("{word}(")))
+    {
+        assert!(library.contains(name), "man/rcm.3 lacks {name}");
+    }
+}
+
+#[test]
+fn completion_in_bash_offers_what_fits() {
+    let folder = new_folder("completion");
+    let script = repository().join("completions/rcm.bash").display().to_string();
+    bash(&folder, &format!("bash -n {script}"));
+    for (words, offered) in [
+        ("rcm r", "run"),
+        ("rcm --v", "--version"),
+        ("rcm asm --", "--unchecked --no-map --help"),
+        ("rcm run module form --s", "--state"),
+        ("rcm run module form --budget 1", ""),
+        ("rcm run module form --output = fi", ""),
+        ("rcm explain 3", "3 31 32 33 34 35 36 37 38 39"),
+        ("rcm list module form --c", "--csv"),
+    ] {
+        let count = words.split(' ').count() - 1;
+        let line = format!(
+            "source {script}\ncompopt() {{ :; }}\nCOMP_WORDS=({words})\nCOMP_CWORD={count}\n_rcm\necho \"${{COMPREPLY[*]}}\""
+        );
+        assert_eq!(bash(&folder, &line).trim_end(), offered, "{words}");
+    }
+    for shell in ["zsh", "fish"] {
+        if has(shell) {
+            bash(&repository(), &format!("{shell} -n completions/rcm.{shell}"));
+        }
+    }
+}
+
+/// The grammar is read, its patterns are patterns, and of the examples only names and brackets are
+/// left without a colour.
+#[test]
+fn the_highlighting_knows_the_words_of_the_examples() {
+    let script = r#"
+import json, pathlib, re
+folder = pathlib.Path("editors/vscode")
+for name in ("package.json", "language-configuration.json"):
+    json.loads((folder / name).read_text())
+patterns = [entry["match"] for entry in json.loads((folder / "rcm-asm.tmLanguage.json").read_text())["patterns"]]
+words = "fn struct type region reg raw file if goto return new free check address field signed unsigned nearest form output in i8 i16 i32"
+vim = pathlib.Path("editors/vim/syntax/rcmasm.vim").read_text()
+for word in words.split():
+    assert re.search(rf"\b{word}\b", " ".join(patterns)), word
+    assert re.search(rf"^syntax keyword.* {word}\b", vim, re.M), word
+for path in pathlib.Path("examples").rglob("*.asm"):
+    for line in path.read_text().splitlines():
+        at, plain = 0, ""
+        while at < len(line):
+            found = [match for match in (re.compile(pattern).match(line, at) for pattern in patterns) if match and match.end() > at]
+            if found and not (at > 0 and line[at].isalnum() and line[at - 1].isalnum()):
+                at = found[0].end()
+            else:
+                plain += line[at]
+                at += 1
+        assert re.fullmatch(r"[A-Za-z0-9_ \[\](){}:;,.]*", plain), (path, line, plain)
+print("done")
+"#;
+    let python = Command::new("python3").args(["-Bc", script]).current_dir(repository()).output();
+    assert_eq!(finished("the grammar", &python.expect("python3")), "done\n");
+}
