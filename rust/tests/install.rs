@@ -186,10 +186,51 @@ fn what_is_missing_is_refused_and_nothing_is_installed() {
     }
 }
 
+/// Where the proved archive is missing, `make` says what it does and how long that takes, and calls
+/// rt; where rt is missing too, it says what was expected.
+#[test]
+fn a_missing_archive_is_proved_with_a_word_before() {
+    let folder = new_folder("install-proving");
+    let tools = folder.join("tools");
+    fs::create_dir(&tools).expect("a folder");
+    for tool in ["sed", "mkdir", "cmp", "cp"] {
+        let path = bash(&folder, &format!("command -v {tool}"));
+        std::os::unix::fs::symlink(path.trim_end(), tools.join(tool)).expect("a link");
+    }
+    let proved = folder.join("librcm.a");
+    let run = || {
+        let words = [
+            format!("PROVED={}", proved.display()),
+            format!("BUILD={}", folder.join("build").display()),
+            folder.join("build/librcm.a").display().to_string(),
+        ];
+        let make = bash(&folder, "command -v make");
+        let mut make = Command::new(make.trim_end());
+        make.args(words).current_dir(repository()).env("PATH", &tools).env_remove("MAKEFLAGS");
+        make.output().expect("make")
+    };
+    let without = run();
+    let error = lossy(&without.stderr);
+    assert!(!without.status.success() && error.contains("found none, and no rt"), "{error}");
+    let copied = format!("#!/bin/sh\ncp {} {}\n", library().display(), proved.display());
+    fs::write(tools.join("rt"), copied).expect("a program");
+    bash(&tools, "chmod +x rt");
+    let said = finished("make", &run());
+    let order = ["about ten minutes", "rt staticlib rcm", "the proved library, from"];
+    let places: Vec<_> = order.iter().map(|words| said.find(words)).collect();
+    assert!(places.iter().all(Option::is_some) && places.is_sorted(), "{said}");
+}
+
 /// The blocks of a page that are files, which begin with a comment that names them, and its
 /// commands, each with what stands below it.
-fn page_parts(page: &str) -> (Vec<(String, String)>, Vec<(String, String)>) {
-    let (mut sources, mut commands) = (Vec::new(), Vec::new());
+#[derive(Default)]
+struct Page {
+    sources: Vec<(String, String)>,
+    commands: Vec<(String, String)>,
+}
+
+fn page_parts(page: &str) -> Page {
+    let mut parts = Page::default();
     let blocks = page.split("\n\n").fold(Vec::<String>::new(), |mut blocks, part| {
         // An empty line inside a block does not end it.
         match blocks.last_mut() {
@@ -206,14 +247,14 @@ fn page_parts(page: &str) -> (Vec<(String, String)>, Vec<(String, String)>) {
         if text.starts_with("$ ") {
             for part in format!("\n{text}").split("\n$ ").skip(1) {
                 let (line, said) = part.split_once('\n').unwrap_or((part, ""));
-                commands.push((line.to_string(), said.trim_end().to_string()));
+                parts.commands.push((line.to_string(), said.trim_end().to_string()));
             }
         } else if let Some(name) = text.split_whitespace().nth(1).and_then(|w| w.strip_suffix(':'))
         {
-            sources.push((name.to_string(), text));
+            parts.sources.push((name.to_string(), text));
         }
     }
-    (sources, commands)
+    parts
 }
 
 /// Every file and command of docs/HOSTS.md, in one shell, as somebody would type them from a clone;
@@ -223,7 +264,7 @@ fn the_page_for_hosts_does_what_it_says() {
     const MARK: &str = "next command";
     let home = new_folder("hosts");
     let page = fs::read_to_string(repository().join("docs/HOSTS.md")).expect("the page");
-    let (sources, commands) = page_parts(&page);
+    let Page { sources, commands } = page_parts(&page);
     let names: Vec<&str> = sources.iter().map(|(name, _)| name.as_str()).collect();
     assert_eq!(names, ["smallest.c", "CMakeLists.txt", "rank.py"]);
     for (name, source) in &sources {
