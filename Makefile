@@ -22,7 +22,7 @@ SHAREDIR = $(PREFIX)/share
 CFLAGS = -O2 -Wall -Wextra -Wpedantic
 PYTHON = python3
 
-# The header says the version; hosts of one SOVERSION go on with a newer library.
+# The header says the version. SOVERSION is raised when a host must be built anew for a newer library.
 version_part = $(shell sed -n 's/^.define RCM_VERSION_$(1) \([0-9]*\)$$/\1/p' include/rcm.h)
 MAJOR := $(call version_part,MAJOR)
 MINOR := $(call version_part,MINOR)

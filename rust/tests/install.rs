@@ -606,18 +606,31 @@ fn the_accessors_say_what_the_reference_reads() {
     assert_eq!(printed.lines().collect::<Vec<_>>(), expected);
 }
 
-/// The options that the tool's own usage names, without what stands behind `=`.
-fn options_of(usage: &str) -> BTreeSet<String> {
-    let words = usage.split(|next: char| !(next.is_ascii_alphanumeric() || next == '-'));
+/// The words of a text that are options.
+fn options_of(text: &str) -> BTreeSet<String> {
+    let words = text.split(|next: char| !(next.is_ascii_alphanumeric() || next == '-'));
     words.filter(|word| word.starts_with("--") && word.len() > 2).map(str::to_string).collect()
 }
 
-/// The commands of the tool's usage: the word behind `rcm` on each of its lines.
-fn commands_of(usage: &str) -> BTreeSet<String> {
+/// The commands of the tool's usage, the word behind `rcm` on its lines, with the options there.
+fn commands_of(usage: &str) -> BTreeMap<String, BTreeSet<String>> {
     let lines = usage.lines().map(|line| line.trim_start_matches("usage:").trim_start());
-    let words = lines.filter_map(|line| line.strip_prefix("rcm ")?.split_whitespace().next());
-    let commands = words.filter(|word| word.chars().all(|next| next.is_ascii_lowercase()));
-    commands.map(str::to_string).collect()
+    let entry = |line: &str| -> Option<(String, BTreeSet<String>)> {
+        let command = line.strip_prefix("rcm ")?.split_whitespace().next()?;
+        let is_command = command.chars().all(|next| next.is_ascii_lowercase());
+        is_command.then(|| (command.to_string(), options_of(line)))
+    };
+    lines.filter_map(entry).collect()
+}
+
+/// What completion in bash offers for the last of these words.
+fn offered(words: &str) -> String {
+    let line = format!(
+        "source completions/rcm.bash\ncompopt() {{ :; }}\nCOMP_WORDS=({words})\nCOMP_CWORD={}\n\
+         _rcm\necho \"${{COMPREPLY[*]}}\"",
+        words.split(' ').count() - 1
+    );
+    bash(&repository(), &line).trim_end().to_string()
 }
 
 #[test]
@@ -629,9 +642,13 @@ fn the_manual_and_the_completions_have_every_command_and_option() {
     {
         let text = fs::read_to_string(repository().join(name)).expect("a file");
         let text = text.replace("\\-", "-").replace(" -l ", " --");
-        for word in options.iter().chain(&commands) {
+        for word in options.iter().chain(commands.keys()) {
             assert!(text.contains(word.as_str()), "{name} lacks {word}");
         }
+    }
+    for (command, options) in commands {
+        let offered = options_of(&offered(&format!("rcm {command} --")));
+        assert!(options.is_subset(&offered), "{command}: {options:?}, offered: {offered:?}");
     }
 }
 
@@ -666,10 +683,8 @@ fn the_manual_pages_have_every_number_and_function() {
 
 #[test]
 fn completion_in_bash_offers_what_fits() {
-    let folder = new_folder("completion");
-    let script = repository().join("completions/rcm.bash").display().to_string();
-    bash(&folder, &format!("bash -n {script}"));
-    for (words, offered) in [
+    bash(&repository(), "bash -n completions/rcm.bash");
+    for (words, expected) in [
         ("rcm r", "run"),
         ("rcm --v", "--version"),
         ("rcm asm --", "--unchecked --no-map --help"),
@@ -679,11 +694,7 @@ fn completion_in_bash_offers_what_fits() {
         ("rcm explain 3", "3 31 32 33 34 35 36 37 38 39"),
         ("rcm list module form --c", "--csv"),
     ] {
-        let count = words.split(' ').count() - 1;
-        let line = format!(
-            "source {script}\ncompopt() {{ :; }}\nCOMP_WORDS=({words})\nCOMP_CWORD={count}\n_rcm\necho \"${{COMPREPLY[*]}}\""
-        );
-        assert_eq!(bash(&folder, &line).trim_end(), offered, "{words}");
+        assert_eq!(offered(words), expected, "{words}");
     }
     for shell in ["zsh", "fish"] {
         if has(shell) {
