@@ -14,6 +14,7 @@
 #include <stdio.h>
 #include <stdlib.h>
 #include <string.h>
+#include <sys/stat.h>
 
 enum { EXIT_DONE = 0, EXIT_BAD = 1, EXIT_REFUSED = 2, EXIT_STOPPED = 3, EXIT_RUNNING = 4 };
 
@@ -188,6 +189,7 @@ static int object(char **words)
 
 int main(int count, char **words)
 {
+    umask(077); /* states and outputs hold a patient's data: what is made here is for its owner alone */
     if (count >= 8 && count <= 8 + RCM_ARGUMENTS_MAX && strcmp(words[1], "run") == 0)
         return run(count - 2, words + 2);
     if (count == 5 && strcmp(words[1], "object") == 0)

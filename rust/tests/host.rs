@@ -10,6 +10,7 @@ use reference::host::{self, Answer};
 use reference::library::Library;
 use reference::state::{OUTPUT_BYTES, STATE_BYTES};
 use std::fmt::Write;
+use std::os::unix::fs::PermissionsExt;
 use std::path::Path;
 use std::process::Command;
 
@@ -126,6 +127,10 @@ fn the_coordinator_goes_on_from_what_it_saved() {
     let rest = coordinator(&folder, &format!("{line} 9"));
     assert_eq!(rest, (0, "dacf".to_string(), "ended 6 35".to_string()));
     assert_eq!(std::fs::read(folder.join("output")).expect("the output"), b"bedacf");
+    for name in ["state", "output"] {
+        let there = std::fs::metadata(folder.join(name)).expect("a file");
+        assert_eq!(there.permissions().mode() & 0o777, 0o600, "{name}");
+    }
     let state = std::fs::read(folder.join("state")).expect("the state");
     let mut bad = state.clone();
     bad[63] = 1; // a spare byte
