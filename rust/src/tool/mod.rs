@@ -1,11 +1,14 @@
 //! The command-line tool `rcm`: translates and shows. Whatever is decided about a module or a
 //! state is decided by the five calls of the C interface, which the tool is given.
 
+mod advice;
 mod assembly;
 mod explain;
 mod files;
 mod going;
 mod json;
+mod listing;
+mod numbers;
 mod pages;
 mod picture;
 mod saved;
@@ -35,8 +38,15 @@ pub struct Command {
 }
 
 /// All commands, in the order of the usage.
-pub const COMMANDS: [&Command; 5] =
-    [&assembly::ASM, &assembly::DIS, &verdict::CHECK, &going::RUN, &pages::PAGES_COMMAND];
+pub const COMMANDS: [&Command; 7] = [
+    &assembly::ASM,
+    &assembly::DIS,
+    &verdict::CHECK,
+    &going::RUN,
+    &pages::PAGES_COMMAND,
+    &listing::LIST,
+    &advice::EXPLAIN,
+];
 
 const STATUSES: &str = "\
 exit status: 0 done, accepted or ended; 1 wrong usage or bad input; 2 refused; 3 stopped; 4 running;
