@@ -4,7 +4,32 @@
 #: accepted
 #: form 6 30'a' 90'b' 30'c' 70'd' 90'e' 10'f'
 #: ended 6 335
-#: output 'b' 'e' 'd' 'a' 'c' 'f'
+#: output "bedacf"
+# A budget may end the call anywhere: here two tags are out.
+#: form 6 30'a' 90'b' 30'c' 70'd' 90'e' 10'f'
+#: budget 300
+#: running 300
+#: output "be"
+# No records and no list; ties in front of and behind another score; all scores equal.
+#: form 0
+#: ended 0 14
+#: output
+#: form 3 50'a' 50'b' 60'c'
+#: ended 3 138
+#: output "cab"
+#: form 3 50"x" 50"y" 50"z"
+#: ended 3 155
+#: output "xyz"
+# Scores have no sign: 200 is above 100.
+#: form 2 100'l' 200'h'
+#: ended 2 91
+#: output "hl"
+# A form that is cut, in a record and before its count.
+#: form 2 9'x' 7
+#: stopped 38 44
+#: output
+#: form
+#: stopped 38 1
 
 struct entry(r) {
     score: i8

@@ -2,6 +2,8 @@
 # object is one too many.
 #: accepted
 #: stopped 34 8065
+#: budget 8064
+#: running 8064
 
 fn main() -> i32 {
     region r: i32

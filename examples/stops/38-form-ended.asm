@@ -2,6 +2,8 @@
 #: accepted
 #: form 1 2 3
 #: stopped 38 11
+#: form
+#: stopped 38 2
 
 fn main() -> i32 {
     reg at, one: i32

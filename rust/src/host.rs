@@ -19,7 +19,7 @@ pub const STILL_RUNNING: u64 = 4;
 
 const ARGUMENT_BYTES: usize = 4;
 /// Functions and instructions share one number of the answer.
-const FUNCTIONS_UNIT: u64 = 65_536;
+pub const FUNCTIONS_UNIT: u64 = 65_536;
 
 fn answer(result: Result<Answer, Refusal>) -> Answer {
     result.unwrap_or_else(|refusal| {

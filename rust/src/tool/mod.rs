@@ -12,6 +12,8 @@ mod numbers;
 mod pages;
 mod picture;
 mod saved;
+mod script;
+mod testing;
 mod trace;
 mod verdict;
 mod words;
@@ -38,12 +40,13 @@ pub struct Command {
 }
 
 /// All commands, in the order of the usage.
-pub const COMMANDS: [&Command; 7] = [
+pub const COMMANDS: [&Command; 8] = [
     &assembly::ASM,
     &assembly::DIS,
     &verdict::CHECK,
     &going::RUN,
     &pages::PAGES_COMMAND,
+    &testing::TEST,
     &listing::LIST,
     &advice::EXPLAIN,
 ];
