@@ -186,9 +186,19 @@ fn explain_says_every_number_and_answer() {
         assert_eq!(ran.status, DONE, "{}", ran.error);
         assert!(ran.out.starts_with(word) && names_a_section(&ran.out), "{}", ran.out);
     }
-    assert_eq!(rcm(&folder, "explain 0x21").out, rcm(&folder, "explain 33").out);
-    let (one, other) = (rcm(&folder, "explain 33").out, rcm(&folder, "explain ended").out);
-    assert_eq!(rcm(&folder, "explain 33 ended").out, format!("{one}\n{other}"));
+    // A number otherwise written, and answers as they are printed.
+    for (line, same) in [
+        ("0x21", "33"),
+        ("stopped 33 3", "33"),
+        ("refused 7 3", "7"),
+        ("ended 33 7", "ended"),
+        ("running 31", "running"),
+        ("accepted 6 1 4 51", "accepted"),
+    ] {
+        let (one, other) =
+            (rcm(&folder, &format!("explain {line}")), rcm(&folder, &format!("explain {same}")));
+        assert_eq!((one.status, one.out), (DONE, other.out), "{line}");
+    }
 }
 
 #[test]
@@ -200,10 +210,25 @@ fn explain_lists_all_where_none_is_asked_for_or_known() {
         let line = format!("{:12}", format!("{word} {number}"));
         assert!(all.out.lines().any(|one| one.starts_with(&line)), "{line}\n{}", all.out);
     }
-    for word in ["0", "10", "19", "23", "30", "40", "99999999999999999999", "halted", "33 halted"] {
+    for word in [
+        "0",
+        "10",
+        "19",
+        "23",
+        "30",
+        "40",
+        "99999999999999999999",
+        "halted",
+        "33 36",
+        "33 halted",
+        "stopped 7",
+        "refused 33",
+        "stopped x",
+    ] {
         let ran = rcm(&folder, &format!("explain {word}"));
         assert_eq!((ran.status, ran.out.as_str()), (BAD_INPUT, ""), "{word}");
-        assert!(ran.error.starts_with("rcm: there is no refusal, stop or answer `"), "{word}");
+        let message = format!("rcm: there is no refusal, stop or answer `{word}`\n");
+        assert!(ran.error.starts_with(&message), "{}", ran.error);
         assert!(ran.error.trim_end().ends_with(all.out.trim_end()), "{}", ran.error);
     }
 }

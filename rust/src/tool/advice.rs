@@ -6,7 +6,7 @@ use super::{print, Command, Outcome, Session, Words};
 
 pub const EXPLAIN: Command = Command {
     name: "explain",
-    takes: "[NUMBER | ANSWER]..",
+    takes: "[NUMBER | ANSWER]",
     options: &[],
     does: "a refusal, a stop or an answer in plain words, and what to do next; alone it lists them",
     run: explain,
@@ -53,19 +53,33 @@ fn explain(words: &Words, session: &mut Session) -> Outcome {
     if asked.is_empty() {
         return print(session.out, &listed());
     }
-    let texts: Result<Vec<String>, String> = asked.iter().map(|word| explained(word)).collect();
-    print(session.out, &texts?.join("\n"))
+    match explained(asked) {
+        Some(text) => print(session.out, &text),
+        None => {
+            let asked = asked.join(" ");
+            Err(format!("there is no refusal, stop or answer `{asked}`\n{}", listed()))
+        }
+    }
 }
 
-fn explained(word: &str) -> Result<String, String> {
-    if let Some((answer, text, section)) = ANSWERS.iter().find(|(answer, ..)| *answer == word) {
-        return Ok(format!("{answer}\n{text}\n{}", more(section)));
-    }
-    let known = number("explain", word).ok();
-    match known.and_then(|known| numbers::refusal(known).or_else(|| numbers::stop(known))) {
-        Some(number) => Ok(number_text(&number)),
-        None => Err(format!("there is no refusal, stop or answer `{word}`\n{}", listed())),
-    }
+/// A number, or an answer as it was printed: its word, its number if it has one, and what follows.
+fn explained(asked: &[&str]) -> Option<String> {
+    let number = |word: &str| number("explain", word).ok();
+    let found = match asked {
+        ["refused", word, ..] => numbers::refusal(number(word)?),
+        ["stopped", word, ..] => numbers::stop(number(word)?),
+        [word] if number(word).is_some() => {
+            number(word).and_then(|one| numbers::refusal(one).or_else(|| numbers::stop(one)))
+        }
+        [word, ..] => return answer_text(word),
+        [] => None,
+    };
+    found.as_ref().map(number_text)
+}
+
+fn answer_text(word: &str) -> Option<String> {
+    let (answer, text, section) = ANSWERS.iter().find(|(answer, ..)| *answer == word)?;
+    Some(format!("{answer}\n{text}\n{}", more(section)))
 }
 
 fn number_text(number: &Number) -> String {
