@@ -11,57 +11,95 @@ const I32: u8 = 4;
 /// An accepted module, or the first broken rule.
 pub fn check(file: &[u8]) -> Result<Module, Refusal> {
     let module = decode(file)?;
-    if let Some((place, asked)) = sizes_fault(&module) {
-        return Err(Refusal::asking(5, place, asked));
+    let every = |_: &Instruction| true;
+    let fault = size_faults(&module)
+        .next()
+        .or_else(|| function_faults(&module).next().map(|(_, refusal)| refusal))
+        .or_else(|| typing_faults(&module, &module.functions, every, 1).pop())
+        .or_else(|| end_faults(&module).next());
+    match fault {
+        Some(refusal) => Err(refusal),
+        None => Ok(module),
     }
-    for (number, function) in module.functions.iter().enumerate() {
-        let fits = function_fits(&module, number, function);
-        fits.map_err(|asked| Refusal::asking(6, function.place, asked))?;
-    }
-    if let Some((place, asked)) = typing_fault(&module) {
-        return Err(Refusal::asking(7, place, asked));
-    }
-    for function in &module.functions {
-        let last = function.code.last().expect("at least one instruction");
-        if last.kind != 31 && last.kind != 34 {
-            let asked = "the last instruction of a function is a jump or a return";
-            return Err(Refusal::asking(8, last.place, asked));
-        }
-    }
-    Ok(module)
 }
 
-/// The first term or name without size, over 256 bytes, with a wrong argument count or with a
-/// field that uses a region its name lacks, and what is asked. Terms stand before names.
-fn sizes_fault(module: &Module) -> Option<(usize, &'static str)> {
+/// What of a function a broken rule is about.
+#[derive(Clone, Copy, PartialEq, Eq, Debug)]
+pub enum Part {
+    Head,
+    Region(usize),
+    Register(usize),
+    Result,
+}
+
+/// Every broken rule in the order of the checker, with the part of the function it is about. Code is
+/// asked as far as its types are sound: none where a type has no size, no function whose types name
+/// regions that it lacks, and no call of a function that breaks a rule itself.
+pub fn faults(module: &Module) -> Vec<(Part, Refusal)> {
+    let mut faults: Vec<(Part, Refusal)> =
+        size_faults(module).map(|refusal| (Part::Head, refusal)).collect();
+    let sized = faults.is_empty();
+    faults.extend(function_faults(module));
+    if sized {
+        let unsound: Vec<usize> = faults.iter().map(|(_, refusal)| refusal.place).collect();
+        let callable = |call: &Instruction| {
+            call.kind != KIND_CALL
+                || !unsound.contains(&module.functions[usize::from(call.b)].place)
+        };
+        let scoped = module.functions.iter().filter(|function| {
+            let terms = function.register_types.iter().chain(&function.region_types);
+            let regions = function.region_types.len();
+            terms.chain([&function.return_term]).all(|&term| regions_used(module, term) <= regions)
+        });
+        let typing = typing_faults(module, scoped, callable, usize::MAX);
+        faults.extend(typing.into_iter().map(|refusal| (Part::Head, refusal)));
+    }
+    faults.extend(end_faults(module).map(|refusal| (Part::Head, refusal)));
+    faults
+}
+
+/// The terms and names without size, over 256 bytes, with a wrong argument count or with a field
+/// that uses a region its name lacks, and what is asked. Terms stand before names.
+fn size_faults(module: &Module) -> impl Iterator<Item = Refusal> + '_ {
     const SIZED: &str =
         "a size of at most 256 bytes; outside pointers a struct holds only earlier structs";
     let sizes = sizes(module);
-    for (number, (term, &size)) in module.terms.iter().zip(&sizes.terms).enumerate() {
+    let terms = module.terms.iter().zip(sizes.terms).enumerate();
+    let terms = terms.filter_map(|(number, (term, size))| {
         if size > MAX_SIZE {
-            return Some((number, SIZED));
+            return Some(Refusal::asking(5, number, SIZED));
         }
-        if let Term::Name { name, arguments } = term {
-            if module.names[usize::from(*name)].regions != arguments.len() {
-                return Some((number, "as many regions as the struct has"));
+        match term {
+            Term::Name { name, arguments }
+                if module.names[usize::from(*name)].regions != arguments.len() =>
+            {
+                Some(Refusal::asking(5, number, "as many regions as the struct has"))
             }
+            _ => None,
         }
-    }
-    for (name, &size) in module.names.iter().zip(&sizes.names) {
+    });
+    let names = module.names.iter().zip(sizes.names).filter_map(|(name, size)| {
         let lacks = |&field: &u8| regions_used(module, field) > name.regions;
         if size > MAX_SIZE {
-            return Some((name.place, SIZED));
+            return Some(Refusal::asking(5, name.place, SIZED));
         }
-        if name.fields.iter().any(lacks) {
-            return Some((name.place, "fields that use only the struct's own regions"));
-        }
-    }
-    None
+        name.fields.iter().any(lacks).then(|| {
+            Refusal::asking(5, name.place, "fields that use only the struct's own regions")
+        })
+    });
+    terms.chain(names)
 }
 
-/// Refusal 6 does not hold of this function; else what is asked.
-fn function_fits(module: &Module, number: usize, function: &Function) -> Result<(), &'static str> {
-    let asks = |condition: bool, what: &'static str| condition.then_some(()).ok_or(what);
+/// Refusals 6, function by function.
+fn function_faults(module: &Module) -> impl Iterator<Item = (Part, Refusal)> + '_ {
+    module.functions.iter().enumerate().flat_map(|(number, function)| {
+        let parts = unfit_parts(module, number, function).into_iter();
+        parts.map(|(part, asked)| (part, Refusal::asking(6, function.place, asked)))
+    })
+}
+
+/// The parts of a function that break refusal 6, and what is asked of them.
+fn unfit_parts(module: &Module, number: usize, function: &Function) -> Vec<(Part, &'static str)> {
     let primitive = |&term: &u8| {
         let form = &module.terms[usize::from(term)];
         matches!(form, Term::Integer { .. } | Term::Pointer { .. })
@@ -71,29 +109,60 @@ fn function_fits(module: &Module, number: usize, function: &Function) -> Result<
     let inner = function.region_types.len();
     let (parameters, locals) = function.register_types.split_at(function.parameters);
     let (parameter_regions, local_regions) = function.region_types.split_at(outer);
-    asks(function.register_types.iter().all(primitive), "registers are integers or pointers")?;
-    asks(primitive(&function.return_term), "the result is an integer or a pointer")?;
-    asks(parameters.iter().all(within(outer)), "parameters use only region parameters")?;
-    asks(
-        parameter_regions.iter().all(within(outer)),
-        "the types of region parameters use only region parameters",
-    )?;
-    asks(
-        within(outer)(&function.return_term),
-        "the result uses only region parameters: local regions close with the return",
-    )?;
-    asks(locals.iter().all(within(inner)), "registers use only the function's regions")?;
-    asks(
-        local_regions.iter().all(within(inner)),
-        "the types of local regions use only the function's regions",
-    )?;
+    let mut unfit = Vec::new();
+    unfit_terms(&mut unfit, &function.register_types, 0, Part::Register, primitive, PRIMITIVE);
+    if !primitive(&function.return_term) {
+        unfit.push((Part::Result, "the result is an integer or a pointer"));
+    }
+    let asked = "parameters use only region parameters";
+    unfit_terms(&mut unfit, parameters, 0, Part::Register, within(outer), asked);
+    let asked = "the types of region parameters use only region parameters";
+    unfit_terms(&mut unfit, parameter_regions, 0, Part::Region, within(outer), asked);
+    if !within(outer)(&function.return_term) {
+        let asked = "the result uses only region parameters: local regions close with the return";
+        unfit.push((Part::Result, asked));
+    }
+    let asked = "registers use only the function's regions";
+    unfit_terms(&mut unfit, locals, parameters.len(), Part::Register, within(inner), asked);
+    let asked = "the types of local regions use only the function's regions";
+    unfit_terms(&mut unfit, local_regions, outer, Part::Region, within(inner), asked);
     if number > 0 {
-        return Ok(());
+        return unfit;
     }
     let i32_term = |&term: &u8| module.terms[usize::from(term)] == Term::Integer { width: I32 };
-    asks(outer == 0, "function 0 has no region parameters")?;
-    asks(parameters.iter().all(i32_term), "the parameters of function 0 are i32")?;
-    asks(i32_term(&function.return_term), "the result of function 0 is i32")
+    if outer > 0 {
+        unfit.push((Part::Head, "function 0 has no region parameters"));
+    }
+    let asked = "the parameters of function 0 are i32";
+    unfit_terms(&mut unfit, parameters, 0, Part::Register, i32_term, asked);
+    if !i32_term(&function.return_term) {
+        unfit.push((Part::Result, "the result of function 0 is i32"));
+    }
+    unfit
+}
+
+/// What refusal 8 asks.
+pub const ENDS: &str = "the last instruction of a function is a jump or a return";
+const PRIMITIVE: &str = "registers are integers or pointers";
+
+/// Adds those of a list of terms that do not fit, numbered from a first number on.
+fn unfit_terms(
+    unfit: &mut Vec<(Part, &'static str)>,
+    terms: &[u8],
+    first: usize,
+    part: fn(usize) -> Part,
+    fits: impl Fn(&u8) -> bool,
+    asked: &'static str,
+) {
+    let wrong = terms.iter().enumerate().filter(|(_, term)| !fits(term));
+    unfit.extend(wrong.map(|(index, _)| (part(first + index), asked)));
+}
+
+/// Refusals 8: the last instructions that lead past the end.
+fn end_faults(module: &Module) -> impl Iterator<Item = Refusal> + '_ {
+    let last = module.functions.iter().filter_map(|function| function.code.last());
+    last.filter(|last| last.kind != 31 && last.kind != 34)
+        .map(|last| Refusal::asking(8, last.place, ENDS))
 }
 
 /// The rule of each kind in words, from kind 16 on.
@@ -119,17 +188,29 @@ const RULES: [&str; 19] = [
     "a returned register has the function's return type",
 ];
 
-/// The first instruction that breaks its rule, and the rule.
-fn typing_fault(module: &Module) -> Option<(usize, &'static str)> {
+/// The instructions of these functions that break their rule, as far as they are asked, and at most
+/// so many.
+fn typing_faults<'m>(
+    module: &'m Module,
+    functions: impl IntoIterator<Item = &'m Function>,
+    asks: impl Fn(&Instruction) -> bool,
+    most: usize,
+) -> Vec<Refusal> {
     let mut types = Types::new(module);
-    for function in &module.functions {
+    let mut faults = Vec::new();
+    for function in functions {
         let mut typing = Typing::new(module, &mut types, function);
-        let fault = function.code.iter().find(|instruction| typing.rule(instruction).is_none());
-        if let Some(instruction) = fault {
-            return Some((instruction.place, typing.asked(instruction)));
+        for instruction in &function.code {
+            if asks(instruction) && typing.rule(instruction).is_none() {
+                let asked = typing.asked(instruction);
+                faults.push(Refusal::asking(7, instruction.place, asked));
+                if faults.len() == most {
+                    return faults;
+                }
+            }
         }
     }
-    None
+    faults
 }
 
 fn terms(types: &mut Types<Variable>, terms: &[u8]) -> Vec<TypeId> {

@@ -31,6 +31,9 @@ pub const KIND_ARGUMENTS: u8 = 35;
 pub const FIRST_CODE_KIND: u8 = 16;
 pub const LAST_CODE_KIND: u8 = 34;
 
+/// What is asked of a jump and a branch.
+pub const TARGET: &str = "a target below the function's number of instructions";
+
 /// A type term; `target`, `element` and `name` are numbers of earlier terms and of a name.
 #[derive(Clone, PartialEq, Eq, Debug)]
 pub enum Term {
@@ -348,10 +351,7 @@ impl Walk<'_> {
                 }
                 Operand::Any => Ok(()),
                 Operand::Operation => asks(value <= LAST_OPERATION, "an operation from 0 to 13"),
-                Operand::Target => asks(
-                    (value as usize) < written_instructions(header),
-                    "a target below the function's number of instructions",
-                ),
+                Operand::Target => asks((value as usize) < written_instructions(header), TARGET),
                 Operand::Function => asks(
                     !self.functions_ended || (value as usize) < self.functions.len(),
                     "a function that is there",
