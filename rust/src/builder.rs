@@ -166,9 +166,11 @@ pub mod code {
     pub const ADD: u32 = 0;
     pub const SUBTRACT: u32 = 1;
     pub const AND: u32 = 3;
+    pub const EXCLUSIVE_OR: u32 = 5;
     pub const RIGHT_SHIFT: u32 = 7;
     pub const QUOTIENT: u32 = 8;
     pub const SIGNED_QUOTIENT: u32 = 10;
+    pub const EQUAL: u32 = 11;
     pub const LESS: u32 = 12;
     pub const LESS_SIGNED: u32 = 13;
 

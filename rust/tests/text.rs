@@ -1,17 +1,18 @@
 //! The text form: texts and the records they mean, texts that give the same file again on every
-//! example and on random modules, accepted, damaged and of wrong lengths, and errors with their
-//! places.
+//! example and on random modules, accepted, damaged and of wrong lengths, what the short forms do,
+//! and errors with their places.
 
 mod common;
 
-use common::worked_records;
+use common::{worked_records, Session};
 use reference::builder::{code, file, list_record, record};
 use reference::damage::damage;
 use reference::file::{records, Record};
 use reference::generator::draw;
 use reference::host;
+use reference::module::decode;
 use reference::prng::Prng;
-use reference::text::{assemble, disassemble};
+use reference::text::{assemble, assemble_all, assemble_unchecked, disassemble, report, Map};
 
 /// The records of a text, filler left out.
 fn assembled(text: &str) -> Vec<Record> {
@@ -153,6 +154,7 @@ fn named_types_and_raw_records() {
 fn random_modules() {
     let mut accepted = 0;
     let mut inline = 0;
+    let mut broken = 0;
     for number in 0..1100 {
         let mut rng = Prng::new(number);
         let sample = draw(&mut rng);
@@ -162,13 +164,32 @@ fn random_modules() {
             let text = round_trip(&file);
             assert!(!text.contains("raw"), "{text}");
             inline += u32::from(!text.starts_with("type"));
+            keeps_rules(&file, &text);
         }
         let mut damaged = damage(&mut rng, sample.records);
-        round_trip(&damaged);
+        let text = round_trip(&damaged);
+        // Refusals 5 to 8 are the rules that a text is asked; 1 to 4 are about the file.
+        let [answer, number, ..] = host::check(&damaged);
+        if answer == host::REFUSED && number > 4 {
+            let errors = assemble_all(&text, "text").err().expect("a broken rule");
+            assert!(errors.iter().all(|error| error.refused), "{errors:?}\n{text}");
+            let made = assemble_unchecked(&text, "text").expect("the same file");
+            assert!(made.file == damaged);
+            broken += 1;
+        }
         damaged.truncate(rng.below(damaged.len() + 1));
         round_trip(&damaged);
     }
     assert!(accepted >= 1000, "{accepted} accepted, {inline} without type lines");
+    assert!(broken >= 100, "{broken} with a broken rule");
+}
+
+/// The text of an accepted module has no error, gives the module and a map of it.
+fn keeps_rules(file: &[u8], text: &str) {
+    let made = assemble_all(text, "text").unwrap_or_else(|errors| panic!("{errors:?}\n{text}"));
+    assert!(made.file == file, "{text}");
+    assert!(made.map.fits(file, &decode(file).expect("a module")), "{text}");
+    assert_eq!(Map::parse(&made.map.text()).as_ref(), Ok(&made.map), "{text}");
 }
 
 #[test]
@@ -191,7 +212,7 @@ fn errors_say_where_and_what() {
         (&inside("goto x"), (3, 10), "expected a label of this function: `x` is none"),
         (&inside("r = g()"), (3, 9), "expected a function: `g` is none"),
         (&inside("r = f(r)"), (3, 9), "expected 0 arguments for `f`, found 1"),
-        (&inside("r = r + 1"), (3, 13), "expected a register, found the number 1"),
+        (&inside("r = r + new"), (3, 13), "expected a register or a number, found `new`"),
         (&inside("r = r r"), (3, 11), "expected the end of the line, found `r`"),
         (&inside("r = r.x"), (3, 9), "expected a pointer: `r` is none"),
         (&inside("reg r: i8"), (3, 9), "expected a new name: there is a register `r` already"),
@@ -206,22 +227,249 @@ fn errors_say_where_and_what() {
     }
 }
 
-/// Random changes of a text never make the assembler fail otherwise than with an error.
+/// A function with one line: i32 a, b are registers 0 and 1, i8 s, t 2 and 3, p 4, and added ones
+/// begin at 5.
+fn around(line: &str) -> String {
+    format!(
+        "fn main() -> i32 {{
+            region r: i32
+            reg a, b: i32
+            reg s, t: i8
+            reg p: *i32 in r
+        start:
+            {line}
+            goto start
+        }}
+        fn g(n: i32, c: i8) -> i32 {{
+            return n
+        }}"
+    )
+}
+
+/// The records of each form that is made of several, as docs/ASSEMBLY.md has them.
+#[test]
+fn short_forms() {
+    use code::{branch, constant, operation, EQUAL, EXCLUSIVE_OR, LESS, LESS_SIGNED};
+    let (a, b, s, t, p, first, second) = (0, 1, 2, 3, 4, 5, 6);
+    let not = |register| [constant(register, 1), operation(EXCLUSIVE_OR, s, s, register)];
+    let call = |registers: &[u8]| code::call(a, 1, &[], registers).to_vec();
+    let joined = |parts: &[&[Record]]| parts.concat();
+    for (line, expected) in [
+        ("a = b + 1", vec![constant(first, 1), operation(code::ADD, a, b, first)]),
+        ("a = 7 - b", vec![constant(first, 7), operation(code::SUBTRACT, a, first, b)]),
+        (
+            "a = -7 / nearest 2",
+            vec![
+                constant(first, 0xffff_fff9),
+                constant(second, 2),
+                operation(code::SIGNED_QUOTIENT, a, first, second),
+            ],
+        ),
+        ("s = t + -1", vec![constant(first, 255), operation(code::ADD, s, t, first)]),
+        ("s = a == 10", vec![constant(first, 10), operation(EQUAL, s, a, first)]),
+        ("s = a != b", joined(&[&[operation(EQUAL, s, a, b)], &not(first)])),
+        ("s = a > b", vec![operation(LESS, s, b, a)]),
+        ("s = a > signed b", vec![operation(LESS_SIGNED, s, b, a)]),
+        ("s = a <= b", joined(&[&[operation(LESS, s, b, a)], &not(first)])),
+        ("s = a <= signed b", joined(&[&[operation(LESS_SIGNED, s, b, a)], &not(first)])),
+        ("s = a >= b", joined(&[&[operation(LESS, s, a, b)], &not(first)])),
+        (
+            "s = 9 >= signed a",
+            joined(&[&[constant(first, 9), operation(LESS_SIGNED, s, first, a)], &not(second)]),
+        ),
+        ("if a < b goto start", vec![operation(LESS, first, a, b), branch(first, 0)]),
+        ("if a > b goto start", vec![operation(LESS, first, b, a), branch(first, 0)]),
+        (
+            "if a == 0 goto start",
+            vec![constant(first, 0), operation(EQUAL, second, a, first), branch(second, 0)],
+        ),
+        ("if a != b goto start", vec![operation(EXCLUSIVE_OR, first, a, b), branch(first, 0)]),
+        (
+            "if 'x' != s goto start",
+            vec![constant(first, 120), operation(EXCLUSIVE_OR, first, first, s), branch(first, 0)],
+        ),
+        (
+            "if a <= b goto start",
+            vec![operation(LESS, first, b, a), branch(first, 3), code::jump(0)],
+        ),
+        (
+            "if s >= signed -2 goto start",
+            vec![
+                constant(first, 254),
+                operation(LESS_SIGNED, first, s, first),
+                branch(first, 4),
+                code::jump(0),
+            ],
+        ),
+        ("if 1 goto start", vec![constant(first, 1), branch(first, 0)]),
+        ("return 0", vec![constant(first, 0), code::ret(first)]),
+        ("output 'x'", vec![constant(first, 120), code::output(first)]),
+        ("*p = 5", vec![constant(first, 5), code::store(p, first)]),
+        ("s = form[0]", vec![constant(first, 0), code::form(s, first)]),
+        ("p = check 256", vec![constant(first, 256), code::check(p, first)]),
+        ("a = g(1, s)", joined(&[&[constant(first, 1)], &call(&[first, s])])),
+        (
+            "a = g(1, 2)",
+            joined(&[&[constant(first, 1), constant(second, 2)], &call(&[first, second])]),
+        ),
+    ] {
+        let text = around(line);
+        let records = assembled(&text);
+        let at = records.iter().position(|record| record.kind() >= 16).expect("the code");
+        let end = [code::jump(0)];
+        assert_eq!(records[at..=at + expected.len()], [&expected[..], &end].concat(), "{line}");
+        let file = assemble(&text).expect("a good text");
+        keeps_rules(&file, &text);
+        let back = round_trip(&file);
+        assert!(!back.starts_with("type"), "{back}");
+    }
+}
+
+/// Added registers are used again by the next line, and only those that are needed are added.
+#[test]
+fn added_registers() {
+    let lines = "a = b + 1\n b = a * 9\n s = t | 4\n if a < 3 goto start\n a = g(1, 2)\n a = 1 + 2";
+    let made = assemble_all(&around(lines), "text").unwrap_or_else(|errors| panic!("{errors:?}"));
+    let registers = &made.map.functions[0].registers;
+    assert_eq!(registers[5..], ["%1", "%2", "%3"], "i32, i8, and a second i32");
+    assert_eq!(made.map.functions[1].registers, ["n", "c"]);
+    let many = |count: usize| {
+        let names: Vec<String> = (0..count).map(|number| format!("r{number}")).collect();
+        let names = names.join(", ");
+        format!("fn f() -> i32 {{\n reg {names}: i32\n if r0 < 1 goto 0\n return 0\n}}")
+    };
+    assert!(assemble(&many(26)).is_ok());
+    let error = assemble(&many(27)).expect_err("too many");
+    let message =
+        "expected at most 28 registers, found 29, 2 of them added for numbers and comparisons";
+    assert_eq!(error.message, message);
+}
+
+/// Every comparison in every form and width, on both sides of its boundaries.
+#[test]
+fn comparisons() {
+    const SIGNS: [&str; 10] =
+        ["==", "!=", "<", "<=", ">", ">=", "< signed", "<= signed", "> signed", ">= signed"];
+    for bits in [8, 16, 32] {
+        let (top, mask) = (1_u32 << (bits - 1), u32::MAX >> (32 - bits));
+        let signed = |value: u32| i64::from(value ^ top) - i64::from(top);
+        // One that reads as negative is written so.
+        let written = |value: u32| match signed(value) {
+            negative @ ..0 => negative.to_string(),
+            _ => value.to_string(),
+        };
+        for (x, y) in [
+            (0, 0),
+            (0, 1),
+            (1, 0),
+            (mask, mask),
+            (0, mask),
+            (mask, 0),
+            (mask - 1, mask),
+            (mask, mask - 1),
+            (top, top - 1),
+            (top - 1, top),
+            (top, top),
+        ] {
+            let mut text = format!(
+                "fn main() -> i32 {{\n reg x, y: i{bits}\n reg s: i8\n x = {x}\n y = {y}\n"
+            );
+            let mut expected = Vec::new();
+            for (number, sign) in SIGNS.into_iter().enumerate() {
+                let order = match sign.ends_with("signed") {
+                    true => signed(x).cmp(&signed(y)),
+                    false => x.cmp(&y),
+                };
+                let holds = match sign.split(' ').next() {
+                    Some("==") => order.is_eq(),
+                    Some("!=") => order.is_ne(),
+                    Some("<") => order.is_lt(),
+                    Some("<=") => order.is_le(),
+                    Some(">") => order.is_gt(),
+                    _ => order.is_ge(),
+                };
+                let sides = [
+                    ("x".to_string(), "y".to_string()),
+                    ("x".to_string(), written(y)),
+                    (written(x), "y".to_string()),
+                ];
+                for (side, (left, right)) in sides.into_iter().enumerate() {
+                    text += &format!(" s = {left} {sign} {right}\n output s\n");
+                    text += &format!(" if {left} {sign} {right} goto l{number}_{side}\n");
+                    text += &format!(" output 7\n l{number}_{side}:\n");
+                    expected.push(u8::from(holds));
+                    expected.extend((!holds).then_some(7));
+                }
+            }
+            text += " return 0\n}";
+            let file = assemble(&text).unwrap_or_else(|error| panic!("{error}\n{text}"));
+            let mut session = Session::open(file, &[]);
+            assert_eq!(session.go(10_000)[0], host::ENDED, "{text}");
+            let count = session.view().output_count as usize;
+            assert_eq!(session.output[..count], expected, "i{bits} {x} {y}");
+        }
+    }
+}
+
+/// Random changes of a text never make the assembler fail otherwise than with errors, and a text
+/// without errors is assembled unchecked too.
 #[test]
 fn damaged_texts() {
-    for number in 0..300 {
+    const PIECES: [&str; 24] = [
+        "&&",
+        "{",
+        "}",
+        "if ",
+        " goto ",
+        "\nfn ",
+        "\nstruct ",
+        "\nraw ",
+        "-",
+        "1",
+        "int ",
+        ";",
+        "//",
+        "/*",
+        "*/",
+        "\n",
+        "\nreg ",
+        "\nreturn ",
+        "r0",
+        "'",
+        "(",
+        "]",
+        " <= ",
+        "\u{e9}",
+    ];
+    let sugar = std::fs::read_to_string(common::repository().join("examples/sugar.asm"));
+    let sugar = sugar.expect("the example");
+    for number in 0..600 {
         let mut rng = Prng::new(number);
-        let mut text = disassemble(&draw(&mut rng).file()).into_bytes();
-        for _ in 0..rng.between(1, 4) {
-            let at = rng.below(text.len());
-            match rng.below(3) {
-                0 => text[at] = rng.pick(b"*[](){}=.,:; \n0a#'").expect("not empty"),
-                1 => {
+        let mut text = match number % 3 {
+            0 => sugar.clone(),
+            _ => disassemble(&draw(&mut rng).file()),
+        };
+        for _ in 0..rng.between(1, 6) {
+            let places: Vec<usize> = text.char_indices().map(|(at, _)| at).collect();
+            let at = rng.pick(&places).unwrap_or_default();
+            match rng.below(4) {
+                0 | 1 => text.insert_str(at, rng.pick(&PIECES).expect("not empty")),
+                2 if at < text.len() => {
                     text.remove(at);
                 }
-                _ => text.truncate(at + 1),
+                _ if rng.below(8) == 0 => text.truncate(at),
+                _ => (),
             }
         }
-        let _ = assemble(&String::from_utf8(text).expect("plain characters"));
+        let unchecked = assemble_unchecked(&text, "text");
+        match assemble_all(&text, "text") {
+            Ok(made) => assert!(unchecked.is_ok_and(|same| same.file == made.file), "{text}"),
+            Err(errors) => {
+                let refused = errors.iter().all(|error| error.refused);
+                assert_eq!(unchecked.is_ok(), refused, "{text}\n{errors:?}");
+                let ordered = errors.is_sorted_by_key(|error| error.place.line);
+                assert!(ordered && !report("text", &text, "error", &errors).is_empty());
+            }
+        }
     }
 }

@@ -24,7 +24,7 @@ fn rcm(folder: &Path, line: &str) -> (u8, String, String) {
 fn example(folder: &Path, name: &str) {
     let text = repository().join("examples").join(name);
     let source = text.display();
-    let (status, _, error) = rcm(folder, &format!("asm {source} -o @module"));
+    let (status, _, error) = rcm(folder, &format!("asm {source} -o @module --unchecked --no-map"));
     assert_eq!(status, DONE, "{error}");
     std::fs::write(folder.join("form"), []).expect("a form");
 }
@@ -182,7 +182,7 @@ fn bad_input_writes_nothing() {
         ("dis @text", BAD_INPUT, "text is no module (refusal 1 at 0"),
         ("run @module @form --output @new --state @absent/new", BAD_INPUT, "No such file"),
         ("asm @text", BAD_INPUT, "-o MODULE is wanted"),
-        ("asm @text -o @new", BAD_INPUT, "text:1:4: expected at least one register"),
+        ("asm @text -o @new", BAD_INPUT, "text:2:5: error: expected a register: `r` is none"),
         ("asm @list -o @new", BAD_INPUT, "expected a text in UTF-8"),
         ("asm @text -o @absent/new", BAD_INPUT, "No such file"),
         ("run @module", BAD_INPUT, "wanted: MODULE FORM; 1 file given\nusage"),

@@ -1,5 +1,7 @@
-//! The words, numbers and signs of a text, each with its line and column.
+//! The words, numbers and signs of a text, each with its line and columns.
 
+use super::error::Error;
+use super::hints;
 use std::fmt;
 
 /// A place in a text, both counted from 1; a column counts characters.
@@ -9,22 +11,18 @@ pub struct Place {
     pub column: usize,
 }
 
-/// What is wrong with a text, and where.
-#[derive(Clone, PartialEq, Eq, Debug)]
-pub struct Error {
+/// A part of a line: from a place up to a column.
+#[derive(Clone, Copy, PartialEq, Eq, Debug)]
+pub struct Span {
     pub place: Place,
-    pub message: String,
+    pub end: usize,
 }
 
-impl fmt::Display for Error {
-    fn fmt(&self, out: &mut fmt::Formatter) -> fmt::Result {
-        write!(out, "line {}, column {}: {}", self.place.line, self.place.column, self.message)
-    }
-}
-
-impl Error {
-    pub fn at<T>(place: Place, message: impl Into<String>) -> Result<T, Error> {
-        Err(Error { place, message: message.into() })
+impl Span {
+    /// From here to the end of another part, or to the line's end if that is in a later line.
+    pub fn to(self, last: Span) -> Span {
+        let same_line = last.place.line == self.place.line;
+        Span { place: self.place, end: if same_line { last.end } else { usize::MAX } }
     }
 }
 
@@ -33,6 +31,8 @@ pub enum Token {
     Word(String),
     Number(u32),
     Sign(&'static str),
+    /// What has no meaning, which is an error already.
+    Wrong,
     /// The end of a line.
     Line,
     /// The end of the text.
@@ -45,16 +45,19 @@ impl fmt::Display for Token {
             Token::Word(word) => write!(out, "`{word}`"),
             Token::Number(number) => write!(out, "the number {number}"),
             Token::Sign(sign) => write!(out, "`{sign}`"),
+            Token::Wrong => write!(out, "what has no meaning"),
             Token::Line => write!(out, "the end of the line"),
             Token::End => write!(out, "the end of the text"),
         }
     }
 }
 
-/// Longer signs first, so that the longest that fits is taken.
-const SIGNS: [&str; 24] = [
-    "->", "==", "<<", ">>", "=", "+", "-", "*", "&", "|", "^", "/", "%", "<", "(", ")", "[", "]",
-    "{", "}", ":", ";", ",", ".",
+/// Longer signs first, so that the longest that fits is taken. Those of C that have no meaning here
+/// are among them for the hints.
+const SIGNS: [&str; 45] = [
+    "<<=", ">>=", "->", "==", "!=", "<=", ">=", "<<", ">>", "&&", "||", "++", "--", "+=", "-=",
+    "*=", "/=", "%=", "&=", "|=", "^=", "=", "+", "-", "*", "&", "|", "^", "/", "%", "<", ">", "!",
+    "~", "?", "(", ")", "[", "]", "{", "}", ":", ";", ",", ".",
 ];
 
 struct Lexer<'t> {
@@ -75,6 +78,11 @@ impl<'t> Lexer<'t> {
         self.take(end)
     }
 
+    /// What was taken since a place.
+    fn since(&self, place: Place) -> Span {
+        Span { place, end: self.place.column }
+    }
+
     fn token(&mut self) -> Result<Token, Error> {
         let place = self.place;
         let Some(first) = self.rest.chars().next() else {
@@ -91,34 +99,74 @@ impl<'t> Lexer<'t> {
         }
         if first.is_ascii_digit() {
             let digits = self.take_while(|next| next.is_ascii_alphanumeric() || next == '_');
-            return number(digits, place);
+            return number(digits, self.since(place));
         }
         if first == '\'' {
-            return self.character(place);
+            return self.character();
         }
         match SIGNS.into_iter().find(|sign| self.rest.starts_with(sign)) {
             Some(sign) => {
                 self.take(sign.len());
                 Ok(Token::Sign(sign))
             }
-            None => Error::at(place, format!("`{first}` has no meaning here")),
+            None => {
+                let sign = self.take(first.len_utf8());
+                let error = Error::new(self.since(place), format!("`{sign}` has no meaning here"));
+                Err(error.hinting(hints::of_sign(sign)))
+            }
         }
     }
 
     /// A character of one byte between quotes is its number.
-    fn character(&mut self, place: Place) -> Result<Token, Error> {
+    fn character(&mut self) -> Result<Token, Error> {
+        let place = self.place;
         match self.rest.as_bytes() {
             [b'\'', byte @ b' '..=b'~', b'\'', ..] => {
                 self.take(3);
                 Ok(Token::Number(u32::from(*byte)))
             }
-            _ => Error::at(place, "expected one character between quotes, as in 'a'"),
+            _ => {
+                self.take(1);
+                self.take_while(|next| next != '\'' && next != '\n');
+                self.take(usize::from(self.rest.starts_with('\'')));
+                let message = "expected one character between quotes, as in 'a'";
+                Error::at(self.since(place), message)
+            }
+        }
+    }
+
+    /// Takes blanks and comments. Comments as C writes them are errors, but hide no others.
+    fn skip(&mut self, errors: &mut Vec<Error>) {
+        loop {
+            self.take_while(|next| next == ' ' || next == '\t' || next == '\r');
+            if self.rest.starts_with('#') {
+                self.take_while(|next| next != '\n');
+            }
+            let Some(sign) = ["//", "/*"].into_iter().find(|sign| self.rest.starts_with(sign))
+            else {
+                return;
+            };
+            let span = Span { place: self.place, end: self.place.column + sign.len() };
+            let error = Error::new(span, format!("`{sign}` begins no comment"));
+            errors.push(error.hinting(hints::COMMENT));
+            self.take_comment(sign);
+        }
+    }
+
+    /// A comment of C: to the end of its line, or to its closing sign if there is one.
+    fn take_comment(&mut self, sign: &str) {
+        let line = self.rest.find('\n').unwrap_or(self.rest.len());
+        let close = self.rest.find("*/").filter(|_| sign == "/*").map(|at| at + "*/".len());
+        let comment = self.take(close.unwrap_or(line));
+        if let Some(at) = comment.rfind('\n') {
+            self.place.line += comment.matches('\n').count();
+            self.place.column = comment[at..].chars().count();
         }
     }
 }
 
 /// A decimal number, or one to the base 16 after `0x`; `_` may stand between digits.
-fn number(digits: &str, place: Place) -> Result<Token, Error> {
+fn number(digits: &str, span: Span) -> Result<Token, Error> {
     let plain = digits.replace('_', "");
     let parsed = match plain.strip_prefix("0x") {
         Some(hex) => u64::from_str_radix(hex, 16),
@@ -126,25 +174,43 @@ fn number(digits: &str, place: Place) -> Result<Token, Error> {
     };
     match parsed.map(u32::try_from) {
         Ok(Ok(number)) => Ok(Token::Number(number)),
-        _ => Error::at(place, format!("expected a number below 4294967296, found `{digits}`")),
+        _ => Error::at(span, format!("expected a number below 4294967296, found `{digits}`")),
     }
 }
 
-/// All tokens of a text, the last is its end. A comment goes from `#` to the end of its line.
-pub fn tokens(text: &str) -> Result<Vec<(Token, Place)>, Error> {
-    let mut lexer = Lexer { rest: text, place: Place { line: 1, column: 1 } };
-    let mut tokens = Vec::new();
+/// A text without the byte order mark that it may begin with.
+pub fn without_mark(text: &str) -> &str {
+    text.strip_prefix('\u{feff}').unwrap_or(text)
+}
+
+/// All tokens of a text, the last is its end, and what has no meaning. A comment goes from `#` to
+/// the end of its line.
+pub fn tokens(text: &str) -> (Vec<(Token, Span)>, Vec<Error>) {
+    let mut lexer = Lexer { rest: without_mark(text), place: Place { line: 1, column: 1 } };
+    let (mut tokens, mut errors) = (Vec::new(), Vec::new());
     loop {
-        lexer.take_while(|next| next == ' ' || next == '\t' || next == '\r');
-        if lexer.rest.starts_with('#') {
-            lexer.take_while(|next| next != '\n');
-        }
+        let before = lexer.place;
+        lexer.skip(&mut errors);
         let place = lexer.place;
-        let token = lexer.token()?;
+        if place.line != before.line {
+            tokens.push((Token::Line, Span { place: before, end: before.column + 1 }));
+        }
+        let token = lexer.token().unwrap_or_else(|error| {
+            errors.push(error);
+            Token::Wrong
+        });
         let end = token == Token::End;
-        tokens.push((token, place));
+        let span = match token {
+            // An end stands behind what is written, before blanks and a comment.
+            Token::Line | Token::End if place.line == before.line => {
+                Span { place: before, end: before.column + 1 }
+            }
+            Token::Line | Token::End => Span { place, end: place.column + 1 },
+            _ => lexer.since(place),
+        };
+        tokens.push((token, span));
         if end {
-            return Ok(tokens);
+            return (tokens, errors);
         }
     }
 }

@@ -3,11 +3,18 @@
 //! module is accepted; a text can say what the checker refuses.
 
 mod assembler;
+mod code;
+mod diagnosis;
 mod disassembler;
+mod error;
+mod hints;
 mod lexer;
+mod map;
 mod parser;
 mod syntax;
 
-pub use assembler::assemble;
+pub use assembler::{assemble, assemble_all, assemble_unchecked, Assembled};
 pub use disassembler::{disassemble, file_records, Listing};
-pub use lexer::{Error, Place};
+pub use error::{report, Error};
+pub use lexer::Place;
+pub use map::{FunctionNames, Map, StructNames, MAP_HEAD};

@@ -1,44 +1,62 @@
-//! Parses a text. Lines end instructions and declarations; inside brackets they do not count.
+//! Parses a text. Lines end instructions and declarations; inside brackets they do not count. What
+//! cannot be read is an error, behind which the next line or item is read all the same.
 
-use super::lexer::{tokens, Error, Place, Token};
+use super::error::Error;
+use super::hints;
+use super::lexer::{tokens, Span, Token};
 use super::syntax::{
-    FileLine, Function, Item, Line, Name, Part, Reference, Statement, Struct, Type, TypeForm,
-    Typed, CONVERSIONS, KEYWORDS, OPERATIONS,
+    operator, FileLine, Function, Item, Line, Name, Number, Operator, Part, Reference, Statement,
+    Struct, Type, TypeForm, Typed, Value, CONVERSIONS, KEYWORDS,
 };
 use crate::builder::record;
 use crate::file::Record;
 use crate::module::MAX_TERMS;
 
 struct Parser {
-    tokens: Vec<(Token, Place)>,
+    tokens: Vec<(Token, Span)>,
     at: usize,
+    errors: Vec<Error>,
+    /// A line of code is read, where hints for signs of C fit.
+    in_code: bool,
 }
 
-/// All items of a text, in order.
-pub fn parse(text: &str) -> Result<Vec<Item>, Error> {
-    let mut parser = Parser { tokens: tokens(text)?, at: 0 };
+/// All items of a text, in order, and what cannot be read.
+pub fn parse(text: &str) -> (Vec<Item>, Vec<Error>) {
+    let (tokens, errors) = tokens(text);
+    let mut parser = Parser { tokens, at: 0, errors, in_code: false };
     let mut items = Vec::new();
     loop {
         parser.skip_lines();
         if *parser.peek() == Token::End {
-            return Ok(items);
+            return (items, parser.errors);
         }
-        items.push(parser.item()?);
+        match parser.item() {
+            Ok(item) => items.push(item),
+            Err(error) => {
+                parser.errors.push(error);
+                parser.skip_to_item();
+            }
+        }
     }
 }
 
 impl Parser {
     fn peek(&self) -> &Token {
-        &self.tokens[self.at].0
+        self.peek_behind(0)
     }
 
-    /// The token after the next one.
-    fn peek_second(&self) -> &Token {
-        &self.tokens[(self.at + 1).min(self.tokens.len() - 1)].0
+    /// The token so many behind the next one.
+    fn peek_behind(&self, count: usize) -> &Token {
+        &self.tokens[(self.at + count).min(self.tokens.len() - 1)].0
     }
 
-    fn place(&self) -> Place {
+    fn span(&self) -> Span {
         self.tokens[self.at].1
+    }
+
+    /// From a part to the token that was taken last.
+    fn since(&self, first: Span) -> Span {
+        first.to(self.tokens[self.at.max(1) - 1].1)
     }
 
     fn advance(&mut self) {
@@ -47,14 +65,60 @@ impl Parser {
         }
     }
 
+    fn expected_error(&self, what: &str) -> Error {
+        let error = Error::new(self.span(), format!("expected {what}, found {}", self.peek()));
+        match self.peek() {
+            Token::Sign(sign) if self.in_code => error.hinting(hints::of_sign(sign)),
+            _ => error,
+        }
+    }
+
     fn expected<T>(&self, what: &str) -> Result<T, Error> {
-        Error::at(self.place(), format!("expected {what}, found {}", self.peek()))
+        Err(self.expected_error(what))
     }
 
     fn skip_lines(&mut self) {
         while *self.peek() == Token::Line {
             self.advance();
         }
+    }
+
+    /// Goes to the end of the line, or to the brace that closes what encloses the line; gives how
+    /// many braces the line leaves open.
+    fn skip_line(&mut self) -> usize {
+        let mut open = 0;
+        loop {
+            match self.peek() {
+                Token::Line | Token::End => return open,
+                Token::Sign("{") => open += 1,
+                Token::Sign("}") if open == 0 => return open,
+                Token::Sign("}") => open -= 1,
+                _ => (),
+            }
+            self.advance();
+        }
+    }
+
+    /// Goes to the next line that begins an item.
+    fn skip_to_item(&mut self) {
+        while *self.peek() != Token::End {
+            let begins_line = self.at == 0 || self.tokens[self.at - 1].0 == Token::Line;
+            if begins_line && (self.begins_item() || self.is_word("raw")) {
+                return;
+            }
+            self.advance();
+        }
+    }
+
+    fn is_word(&self, text: &str) -> bool {
+        matches!(self.peek(), Token::Word(word) if word == text)
+    }
+
+    /// An item begins here, and no line of code.
+    fn begins_item(&self) -> bool {
+        let structure =
+            self.is_word("struct") && matches!(self.peek_behind(2), Token::Sign("{" | "("));
+        structure || ["type", "fn", "file"].into_iter().any(|word| self.is_word(word))
     }
 
     /// Takes a sign or keyword if it stands here.
@@ -77,10 +141,20 @@ impl Parser {
         self.expected(&format!("`{text}`"))
     }
 
+    /// A semicolon before the end is an error that hides no others.
     fn end_of_line(&mut self) -> Result<(), Error> {
+        if *self.peek() == Token::Sign(";") {
+            let error = self.expected_error("the end of the line");
+            self.errors.push(error.hinting(hints::of_sign(";")));
+            self.advance();
+        }
         match self.peek() {
             Token::Line => self.advance(),
             Token::End | Token::Sign("}") => (),
+            Token::Sign(sign) if self.in_code => {
+                let error = self.expected_error("the end of the line");
+                return Err(error.hinting(hints::behind(sign)));
+            }
             _ => return self.expected("the end of the line"),
         }
         Ok(())
@@ -91,14 +165,14 @@ impl Parser {
     }
 
     fn name(&mut self, what: &str) -> Result<Name, Error> {
-        let place = self.place();
+        let span = self.span();
         match self.peek().clone() {
             Token::Word(word) if KEYWORDS.contains(&word.as_str()) => {
-                Error::at(place, format!("expected {what}, found `{word}`, a word of the language"))
+                Error::at(span, format!("expected {what}, found `{word}`, a word of the language"))
             }
             Token::Word(text) => {
                 self.advance();
-                Ok(Name { text, place })
+                Ok(Name { text, span })
             }
             _ => self.expected(what),
         }
@@ -116,10 +190,10 @@ impl Parser {
     }
 
     fn reference(&mut self, what: &str) -> Result<Reference, Error> {
-        let place = self.place();
+        let span = self.span();
         if let Token::Number(number) = *self.peek() {
             self.advance();
-            return Ok(Reference::Number(number, place));
+            return Ok(Reference::Number(number, span));
         }
         Ok(Reference::Named(self.name(&format!("{what} (a name or a number)"))?))
     }
@@ -150,9 +224,9 @@ impl Parser {
 
     /// A type of at most so many levels, each of which is a term of the module.
     fn nested_type(&mut self, levels: usize) -> Result<Type, Error> {
-        let place = self.place();
+        let first = self.span();
         if levels == 0 {
-            return Error::at(place, format!("expected a type of at most {MAX_TERMS} levels"));
+            return Error::at(first, format!("expected a type of at most {MAX_TERMS} levels"));
         }
         let form = if self.takes("*") {
             let target = self.nested_type(levels - 1)?;
@@ -181,170 +255,363 @@ impl Parser {
         } else {
             return self.expected("a type: i8, i16, i32, `*T in r`, `[T; n]` or a name");
         };
-        Ok(Type { form, place })
+        Ok(Type { form, span: self.since(first) })
+    }
+
+    fn type_of_name(&mut self) -> Result<Type, Error> {
+        if !self.takes(":") {
+            return Err(self.expected_error("`:`").hinting(hints::TYPED));
+        }
+        self.written_type()
     }
 
     fn typed(&mut self, what: &str) -> Result<Typed, Error> {
         let name = self.name(what)?;
-        self.expect(":")?;
-        Ok(Typed { name, written: self.written_type()? })
+        Ok(Typed { name, written: self.type_of_name()? })
     }
 
     fn item(&mut self) -> Result<Item, Error> {
-        let place = self.place();
+        let first = self.span();
         if self.takes("type") {
             let name = self.name("the type's name")?;
-            self.expect("=")?;
-            let written = self.written_type()?;
-            self.end_of_line()?;
-            Ok(Item::Type { name, written })
+            let read = self.type_line();
+            Ok(self.known(name, read, |name, written| Item::Type { name, written }))
         } else if self.takes("struct") {
-            Ok(Item::Struct(self.structure()?))
+            self.structure()
         } else if self.takes("fn") {
-            Ok(Item::Function(self.function()?))
+            self.function()
         } else if self.takes("raw") {
-            Ok(Item::Raw(self.raw()?))
+            let record = self.raw()?;
+            let span = self.since(first);
+            self.end_of_line()?;
+            Ok(Item::Raw(record, span))
         } else if self.takes("file") {
             let line = self.file_line()?;
+            let span = self.since(first);
             self.end_of_line()?;
-            Ok(Item::File(line, place))
+            Ok(Item::File(line, span))
         } else {
-            self.expected("`type`, `struct`, `fn`, `raw` or `file`")
+            let error = self.expected_error("`type`, `struct`, `fn`, `raw` or `file`");
+            Err(match self.peek() {
+                Token::Word(word) => error.hinting(hints::of_item(word)),
+                _ => error,
+            })
         }
     }
 
-    fn structure(&mut self) -> Result<Struct, Error> {
+    /// The item of a name, if the rest of it could be read.
+    fn known<T>(
+        &mut self,
+        name: Name,
+        read: Result<T, Error>,
+        item: impl Fn(Name, T) -> Item,
+    ) -> Item {
+        match read {
+            Ok(rest) => item(name, rest),
+            Err(error) => {
+                self.errors.push(error);
+                self.skip_to_item();
+                Item::Unknown(name)
+            }
+        }
+    }
+
+    fn type_line(&mut self) -> Result<Type, Error> {
+        self.expect("=")?;
+        let written = self.written_type()?;
+        self.end_of_line()?;
+        Ok(written)
+    }
+
+    fn structure(&mut self) -> Result<Item, Error> {
         let name = self.name("the struct's name")?;
+        let read = self.struct_regions().map(|regions| (regions, self.fields()));
+        Ok(self.known(name, read, |name, (regions, fields)| match fields {
+            Some(fields) => Item::Struct(Struct { name, regions, fields }),
+            None => Item::Unknown(name),
+        }))
+    }
+
+    fn struct_regions(&mut self) -> Result<Vec<Name>, Error> {
         let regions = if self.takes("(") {
             self.list(")", |parser| parser.name("a region's name"))?
         } else {
             Vec::new()
         };
         self.expect("{")?;
-        let mut fields = Vec::new();
+        Ok(regions)
+    }
+
+    /// The fields up to the closing brace; none if one of them cannot be read.
+    fn fields(&mut self) -> Option<Vec<Typed>> {
+        let mut fields = Some(Vec::new());
         loop {
             self.skip_lines();
             if self.takes("}") {
-                return Ok(Struct { name, regions, fields });
+                return fields;
             }
-            fields.push(self.typed("a field's name or `}`")?);
-            if !self.takes(",") {
-                self.end_of_line()?;
+            if *self.peek() == Token::End || self.begins_item() {
+                self.errors.push(self.expected_error("a field's name or `}`"));
+                return None;
+            }
+            match (self.field(), &mut fields) {
+                (Ok(field), Some(fields)) => fields.push(field),
+                (Ok(_), None) => (),
+                (Err(error), _) => {
+                    self.errors.push(error);
+                    self.skip_line();
+                    fields = None;
+                }
             }
         }
     }
 
-    fn function(&mut self) -> Result<Function, Error> {
+    fn field(&mut self) -> Result<Typed, Error> {
+        let field = self.typed("a field's name or `}`")?;
+        if !self.takes(",") {
+            self.end_of_line()?;
+        }
+        Ok(field)
+    }
+
+    fn function(&mut self) -> Result<Item, Error> {
         let name = self.name("the function's name")?;
-        let mut regions = if self.takes("[") {
+        let head = self.head();
+        let known = head.is_ok();
+        let (regions, registers, return_type) = match head {
+            Ok(head) => head,
+            Err(error) => {
+                self.errors.push(error);
+                self.skip_line_up_to_brace();
+                if !self.takes("{") {
+                    self.skip_to_item();
+                    return Ok(Item::UnknownFunction(name));
+                }
+                (Vec::new(), Vec::new(), Type { form: TypeForm::Unknown, span: name.span })
+            }
+        };
+        let mut function = Function {
+            name,
+            region_parameters: regions.len(),
+            regions,
+            parameters: registers.len(),
+            registers,
+            return_type,
+            code: Vec::new(),
+            end: self.span(),
+        };
+        self.body(&mut function);
+        Ok(match known {
+            true => Item::Function(function),
+            false => Item::UnknownFunction(function.name),
+        })
+    }
+
+    /// Region parameters, parameters and result, up to the opening brace.
+    fn head(&mut self) -> Result<(Vec<Typed>, Vec<Typed>, Type), Error> {
+        let regions = if self.takes("[") {
             self.list("]", |parser| parser.typed("a region parameter's name"))?
         } else {
             Vec::new()
         };
         self.expect("(")?;
-        let mut registers = self.list(")", |parser| parser.typed("a parameter's name"))?;
-        let (region_parameters, parameters) = (regions.len(), registers.len());
-        self.expect("->")?;
+        let registers = self.list(")", |parser| parser.typed("a parameter's name"))?;
+        if !self.takes("->") {
+            return Err(self.expected_error("`->`").hinting(hints::RESULT));
+        }
         let return_type = self.written_type()?;
         self.expect("{")?;
-        let mut code = Vec::new();
-        loop {
-            self.skip_lines();
-            let end = self.place();
-            if self.takes("}") {
-                return Ok(Function {
-                    name,
-                    region_parameters,
-                    regions,
-                    parameters,
-                    registers,
-                    return_type,
-                    code,
-                    end,
-                });
-            }
-            if self.takes("region") {
-                regions.push(self.typed("the region's name")?);
-            } else if self.takes("reg") {
-                registers.extend(self.register_line()?);
-            } else {
-                code.push(self.line()?);
-                continue;
-            }
-            self.end_of_line()?;
+        Ok((regions, registers, return_type))
+    }
+
+    fn skip_line_up_to_brace(&mut self) {
+        while !matches!(self.peek(), Token::Line | Token::End | Token::Sign("{")) {
+            self.advance();
         }
     }
 
-    /// One or more registers of one type.
-    fn register_line(&mut self) -> Result<Vec<Typed>, Error> {
-        let mut names = vec![self.name("the register's name")?];
-        while self.takes(",") {
-            names.push(self.name("a register's name")?);
+    /// The lines up to the closing brace. Braces that lines leave open which cannot be read are
+    /// closed before it.
+    fn body(&mut self, function: &mut Function) {
+        let mut open = 0;
+        loop {
+            self.skip_lines();
+            function.end = self.span();
+            if self.takes("}") {
+                if open == 0 {
+                    return;
+                }
+                open += self.skip_line();
+                open -= 1;
+            } else if *self.peek() == Token::End || self.begins_item() {
+                self.errors.push(self.expected_error("`}` at the end of the function"));
+                return;
+            } else if let Err(error) = self.body_line(function) {
+                self.errors.push(error);
+                function.code.push(Line::Unknown);
+                open += self.skip_line();
+            }
         }
-        self.expect(":")?;
-        let written = self.written_type()?;
-        Ok(names.into_iter().map(|name| Typed { name, written: written.clone() }).collect())
+    }
+
+    fn body_line(&mut self, function: &mut Function) -> Result<(), Error> {
+        if self.takes("region") {
+            let name = self.name("the region's name")?;
+            self.declare(vec![name], &mut function.regions)?;
+            return self.end_of_line();
+        }
+        if self.takes("reg") {
+            let mut names = vec![self.name("the register's name")?];
+            while self.takes(",") {
+                names.push(self.name("a register's name")?);
+            }
+            self.declare(names, &mut function.registers)?;
+            return self.end_of_line();
+        }
+        self.in_code = true;
+        let line = self.line();
+        self.in_code = false;
+        function.code.push(line?);
+        Ok(())
+    }
+
+    /// Names of one type, which are declared also where the type cannot be read.
+    fn declare(&mut self, names: Vec<Name>, declared: &mut Vec<Typed>) -> Result<(), Error> {
+        let read = self.type_of_name();
+        for name in names {
+            let unknown = Type { form: TypeForm::Unknown, span: name.span };
+            let written = read.clone().unwrap_or(unknown);
+            declared.push(Typed { name, written });
+        }
+        read.map(|_| ())
     }
 
     fn line(&mut self) -> Result<Line, Error> {
+        let first = self.span();
         if self.takes("raw") {
-            return Ok(Line::Raw(self.raw()?));
+            let record = self.raw()?;
+            let span = self.since(first);
+            self.end_of_line()?;
+            return Ok(Line::Raw(record, span));
         }
-        if self.is_name() && *self.peek_second() == Token::Sign(":") {
+        if self.is_name() && *self.peek_behind(1) == Token::Sign(":") {
             let label = self.name("a label")?;
             self.advance();
             return Ok(Line::Label(label));
         }
         let statement = self.statement()?;
+        let span = self.since(first);
         self.end_of_line()?;
-        Ok(Line::Instruction(statement))
+        Ok(Line::Instruction(statement, span))
     }
 
     fn register(&mut self) -> Result<Name, Error> {
         self.name("a register")
     }
 
+    /// A number with its minus, if one stands here.
+    fn signed_number(&mut self) -> Result<Option<Number>, Error> {
+        let first = self.span();
+        let negative = self.takes("-");
+        if !negative && !matches!(self.peek(), Token::Number(_)) {
+            return Ok(None);
+        }
+        let value = self.number("a number", u32::MAX)?;
+        Ok(Some(Number { value, negative, span: self.since(first) }))
+    }
+
+    fn value(&mut self) -> Result<Value, Error> {
+        Ok(match self.signed_number()? {
+            Some(number) => Value::Number(number),
+            None => Value::Register(self.name("a register or a number")?),
+        })
+    }
+
     fn statement(&mut self) -> Result<Statement, Error> {
         if self.takes("*") {
             let a = self.register()?;
             self.expect("=")?;
-            return Ok(plain(26, Some(a), Some(self.register()?), None, 0));
+            return Ok(Statement::Store { a, value: self.value()? });
         }
         if self.takes("free") {
             return Ok(plain(28, Some(self.register()?), None, None, 0));
         }
         if self.takes("output") {
-            return Ok(plain(30, None, Some(self.register()?), None, 0));
+            return Ok(Statement::Output { value: self.value()? });
         }
         if self.takes("return") {
-            return Ok(plain(34, Some(self.register()?), None, None, 0));
+            let value = self.value().map_err(|error| match self.peek() {
+                Token::Line | Token::Sign(";" | "}") => error.hinting(hints::RESULT),
+                _ => error,
+            });
+            return Ok(Statement::Return { value: value? });
         }
         if self.takes("goto") {
             return Ok(Statement::Jump { target: self.reference("a label")? });
         }
         if self.takes("if") {
-            let a = self.register()?;
-            self.expect("goto")?;
-            return Ok(Statement::Branch { a, target: self.reference("a label")? });
+            return self.branch();
         }
         if !self.is_name() {
-            return self.expected("an instruction, a label, `region`, `reg` or `}`");
+            let error = self.expected_error("an instruction, a label, `region`, `reg` or `}`");
+            return Err(match self.peek() {
+                Token::Word(word) => error.hinting(hints::of_line(word)),
+                _ => error,
+            });
         }
         let a = self.register()?;
-        self.expect("=")?;
+        if !self.takes("=") {
+            return Err(self.no_value(&a));
+        }
         self.value_of(a)
+    }
+
+    /// A line that begins with a name and sets nothing.
+    fn no_value(&self, first: &Name) -> Error {
+        let hint = hints::of_line(&first.text);
+        if !hint.is_empty() {
+            let message = format!("expected an instruction, found `{}`", first.text);
+            return Error::new(first.span, message).hinting(hint);
+        }
+        let error = self.expected_error("`=`");
+        match self.peek() {
+            Token::Sign("(") => error.hinting(hints::CALL),
+            Token::Sign("." | "[" | "->") => error.hinting(hints::STORE),
+            _ => error,
+        }
+    }
+
+    /// What follows `if`.
+    fn branch(&mut self) -> Result<Statement, Error> {
+        let left = self.value().map_err(|error| match self.peek() {
+            Token::Sign("(") => error.hinting(hints::CONDITION),
+            _ => error,
+        })?;
+        let sign = self.at;
+        let compared = match self.operator() {
+            Some(operator) if !operator.compares() => {
+                self.at = sign;
+                let error = self.expected_error("a comparison or `goto`");
+                return Err(error.hinting(hints::behind("")));
+            }
+            Some(operator) => Some((operator, self.value()?)),
+            None => None,
+        };
+        self.expect("goto")?;
+        let target = self.reference("a label")?;
+        Ok(match compared {
+            Some((operator, right)) => Statement::Compare { left, operator, right, target },
+            None => Statement::Branch { value: left, target },
+        })
     }
 
     /// The right side of an instruction that sets register a.
     fn value_of(&mut self, a: Name) -> Result<Statement, Error> {
-        let place = self.place();
-        if let Token::Number(value) = *self.peek() {
-            self.advance();
-            return Ok(plain(16, Some(a), None, None, value));
-        }
-        if self.takes("-") {
-            let value = self.number("a number", u32::MAX)?;
-            return Ok(Statement::Negative { a, value, place });
+        if let Some(number) = self.signed_number()? {
+            return match self.operator() {
+                Some(operator) => self.operation(a, Value::Number(number), operator),
+                None => Ok(Statement::Constant { a, number }),
+            };
         }
         if self.takes("*") {
             return Ok(plain(25, Some(a), Some(self.register()?), None, 0));
@@ -359,9 +626,12 @@ impl Parser {
         }
         if self.takes("form") {
             self.expect("[")?;
-            let c = self.register()?;
+            let place = self.value()?;
             self.expect("]")?;
-            return Ok(plain(29, Some(a), None, Some(c), 0));
+            return Ok(Statement::Form { a, place });
+        }
+        if self.takes("check") {
+            return Ok(Statement::Check { a, value: self.value()? });
         }
         for (word, kind) in CONVERSIONS {
             if self.takes(word) {
@@ -377,18 +647,23 @@ impl Parser {
 
     /// What follows `a = b`: nothing, an operation, a path, an index or a call's lists.
     fn after_name(&mut self, a: Name, b: Name) -> Result<Statement, Error> {
+        if let Some(operator) = self.operator() {
+            return self.operation(a, Value::Register(b), operator);
+        }
         match *self.peek() {
             Token::Sign("(") => self.call(a, b, Vec::new()),
             Token::Sign(".") => self.path(a, b),
             Token::Sign("[") if self.is_call() => self.regions_and_call(a, b),
-            Token::Sign("[") if matches!(self.peek_second(), Token::Number(_)) => self.path(a, b),
+            Token::Sign("[") if matches!(self.peek_behind(1), Token::Number(_)) => self.path(a, b),
             Token::Sign("[") => {
                 self.advance();
-                let c = self.register()?;
+                let c = self.name("a register or an element's number")?;
                 self.expect("]")?;
                 Ok(plain(24, Some(a), Some(b), Some(c), 0))
             }
-            Token::Sign(sign) if sign != "}" => self.operation(a, b, sign),
+            Token::Sign(sign) if sign != "}" && sign != ";" => {
+                self.expected("an operation, a path, an index, a call or the end of the line")
+            }
             _ => Ok(plain(17, Some(a), Some(b), None, 0)),
         }
     }
@@ -416,52 +691,57 @@ impl Parser {
         regions: Vec<Reference>,
     ) -> Result<Statement, Error> {
         self.expect("(")?;
-        let arguments = self.list(")", Parser::register)?;
+        let arguments = self.list(")", Parser::value)?;
         Ok(Statement::Call { a, function, regions, arguments })
     }
 
     fn path(&mut self, a: Name, b: Name) -> Result<Statement, Error> {
         let mut path = Vec::new();
         loop {
-            let place = self.place();
+            let span = self.span();
             if self.takes(".") {
                 path.push(Part::Field(self.name("a field")?));
             } else if self.takes("[") {
                 let index = self.number("an element's number", u32::MAX)?;
-                path.push(Part::Element(index, place));
                 self.expect("]")?;
+                path.push(Part::Element(index, self.since(span)));
             } else {
                 return Ok(Statement::Path { a, b, path });
             }
         }
     }
 
-    fn operation(&mut self, a: Name, b: Name, sign: &str) -> Result<Statement, Error> {
-        if !OPERATIONS.contains(&sign) {
-            return self.expected("an operation, a path, an index, a call or the end of the line");
-        }
+    /// An operator with its word, if one stands here.
+    fn operator(&mut self) -> Option<Operator> {
+        let Token::Sign(sign) = *self.peek() else {
+            return None;
+        };
+        let alone = operator(sign)?;
         self.advance();
-        let mut operation = sign.to_string();
-        for (sign_before, word) in [("/", "nearest"), ("<", "signed")] {
-            if sign == sign_before && self.takes(word) {
-                operation = format!("{sign} {word}");
+        for word in ["nearest", "signed"] {
+            if let (true, Some(with_word)) =
+                (self.is_word(word), operator(&format!("{sign} {word}")))
+            {
+                self.advance();
+                return Some(with_word);
             }
         }
-        let number = OPERATIONS.iter().position(|known| **known == operation);
-        let number = number.expect("all operations with a word are in the table") as u32;
-        Ok(plain(18, Some(a), Some(b), Some(self.register()?), number))
+        Some(alone)
+    }
+
+    fn operation(&mut self, a: Name, left: Value, operator: Operator) -> Result<Statement, Error> {
+        Ok(Statement::Operation { a, left, operator, right: self.value()? })
     }
 
     /// Five numbers (kind, a, b, c, d) or the eight bytes.
     fn raw(&mut self) -> Result<Record, Error> {
         let mut numbers = Vec::new();
-        let place = self.place();
+        let first = self.span();
         while let Token::Number(number) = *self.peek() {
             numbers.push(number);
             self.advance();
             self.takes(",");
         }
-        self.end_of_line()?;
         let bytes: Option<Vec<u8>> =
             numbers.iter().map(|&number| u8::try_from(number).ok()).collect();
         match (bytes, &numbers[..]) {
@@ -472,7 +752,7 @@ impl Parser {
                 Ok(record(kind as u8, a as u8, b as u8, c as u8, d))
             }
             _ => Error::at(
-                place,
+                self.since(first),
                 "expected a record: five numbers (kind, a, b, c below 256, and d) or eight bytes",
             ),
         }

@@ -1,26 +1,27 @@
 //! A parsed text: what is written, names not yet resolved.
 
-use super::lexer::Place;
+use super::lexer::Span;
 use crate::file::Record;
+use std::fmt;
 
 /// A word with its place.
 #[derive(Clone, PartialEq, Eq, Debug)]
 pub struct Name {
     pub text: String,
-    pub place: Place,
+    pub span: Span,
 }
 
 /// A region or a branch target: by name, or by number.
 #[derive(Clone, PartialEq, Eq, Debug)]
 pub enum Reference {
     Named(Name),
-    Number(u32, Place),
+    Number(u32, Span),
 }
 
 #[derive(Clone, PartialEq, Eq, Debug)]
 pub struct Type {
     pub form: TypeForm,
-    pub place: Place,
+    pub span: Span,
 }
 
 #[derive(Clone, PartialEq, Eq, Debug)]
@@ -30,6 +31,8 @@ pub enum TypeForm {
     Array(Box<Type>, u32),
     /// A struct with its regions, or a named type.
     Named(String, Vec<Reference>),
+    /// What could not be read, which is an error already.
+    Unknown,
 }
 
 /// A field, register or region with its type.
@@ -57,32 +60,66 @@ pub struct Function {
     pub return_type: Type,
     pub code: Vec<Line>,
     /// The closing brace.
-    pub end: Place,
+    pub end: Span,
 }
 
 #[derive(Clone, PartialEq, Eq, Debug)]
 pub enum Line {
     Label(Name),
-    Instruction(Statement),
-    Raw(Record),
+    Instruction(Statement, Span),
+    Raw(Record, Span),
+    /// What could not be read, which is an error already.
+    Unknown,
 }
 
 /// A step into a struct's field or an array's element.
 #[derive(Clone, PartialEq, Eq, Debug)]
 pub enum Part {
     Field(Name),
-    Element(u32, Place),
+    Element(u32, Span),
 }
 
-/// An instruction. `Plain` has every form whose operands are registers and a number.
+/// What is read: a register or a number.
+#[derive(Clone, PartialEq, Eq, Debug)]
+pub enum Value {
+    Register(Name),
+    Number(Number),
+}
+
+/// A number as it is written; a minus may stand before it.
+#[derive(Clone, PartialEq, Eq, Debug)]
+pub struct Number {
+    pub value: u32,
+    pub negative: bool,
+    pub span: Span,
+}
+
+/// How an operator is made of an operation of kind 18.
+#[derive(Clone, Copy, PartialEq, Eq, Debug)]
+pub struct Operator {
+    pub operation: u32,
+    /// The right side is the operation's first operand.
+    pub swapped: bool,
+    /// The operation's 0 means 1.
+    pub negated: bool,
+}
+
+/// An instruction. `Plain` has the forms whose operands are registers and a number of the format.
 #[derive(Clone, PartialEq, Eq, Debug)]
 pub enum Statement {
     Plain { kind: u8, a: Option<Name>, b: Option<Name>, c: Option<Name>, d: u32 },
-    Negative { a: Name, value: u32, place: Place },
+    Constant { a: Name, number: Number },
+    Operation { a: Name, left: Value, operator: Operator, right: Value },
+    Check { a: Name, value: Value },
     Path { a: Name, b: Name, path: Vec<Part> },
+    Store { a: Name, value: Value },
+    Form { a: Name, place: Value },
+    Output { value: Value },
     Jump { target: Reference },
-    Branch { a: Name, target: Reference },
-    Call { a: Name, function: Name, regions: Vec<Reference>, arguments: Vec<Name> },
+    Branch { value: Value, target: Reference },
+    Compare { left: Value, operator: Operator, right: Value, target: Reference },
+    Call { a: Name, function: Name, regions: Vec<Reference>, arguments: Vec<Value> },
+    Return { value: Value },
 }
 
 /// What a text can say about its file beyond the records.
@@ -96,11 +133,59 @@ pub enum FileLine {
 
 #[derive(Clone, PartialEq, Eq, Debug)]
 pub enum Item {
-    Type { name: Name, written: Type },
+    Type {
+        name: Name,
+        written: Type,
+    },
     Struct(Struct),
     Function(Function),
-    Raw(Record),
-    File(FileLine, Place),
+    Raw(Record, Span),
+    File(FileLine, Span),
+    /// A type or struct of which only the name could be read.
+    Unknown(Name),
+    /// The same of a function.
+    UnknownFunction(Name),
+}
+
+/// A type as the text writes it.
+impl fmt::Display for Type {
+    fn fmt(&self, out: &mut fmt::Formatter) -> fmt::Result {
+        match &self.form {
+            TypeForm::Integer(width) => write!(out, "i{}", 8 * u32::from(*width)),
+            TypeForm::Pointer(target, region) => write!(out, "*{target} in {region}"),
+            TypeForm::Array(element, count) => write!(out, "[{element}; {count}]"),
+            TypeForm::Named(name, regions) if regions.is_empty() => write!(out, "{name}"),
+            TypeForm::Named(name, regions) => {
+                let regions: Vec<String> = regions.iter().map(Reference::to_string).collect();
+                write!(out, "{name}({})", regions.join(", "))
+            }
+            TypeForm::Unknown => write!(out, "unknown"),
+        }
+    }
+}
+
+impl fmt::Display for Reference {
+    fn fmt(&self, out: &mut fmt::Formatter) -> fmt::Result {
+        match self {
+            Reference::Named(name) => write!(out, "{}", name.text),
+            Reference::Number(number, _) => write!(out, "{number}"),
+        }
+    }
+}
+
+impl Operator {
+    pub fn compares(self) -> bool {
+        self.operation >= FIRST_COMPARISON
+    }
+}
+
+impl Value {
+    pub fn span(&self) -> Span {
+        match self {
+            Value::Register(name) => name.span,
+            Value::Number(number) => number.span,
+        }
+    }
 }
 
 /// Words that cannot be names.
@@ -114,6 +199,32 @@ pub const KEYWORDS: [&str; 24] = [
 pub const OPERATIONS: [&str; 14] =
     ["+", "-", "*", "&", "|", "^", "<<", ">>", "/", "%", "/ nearest", "==", "<", "< signed"];
 
-/// Instructions of the form `a = WORD b`.
+/// The first of the operations that compare.
+const FIRST_COMPARISON: u32 = 11;
+
+/// Instructions of the form `a = WORD b` with a register.
 pub const CONVERSIONS: [(&str, u8); 4] =
     [("unsigned", 19), ("signed", 20), ("address", 21), ("check", 22)];
+
+/// Comparisons beside those of kind 18: the one that they are made of, whether its operands are
+/// swapped, and whether its 0 means 1.
+const COMPARISONS: [(&str, &str, bool, bool); 7] = [
+    ("!=", "==", false, true),
+    (">", "<", true, false),
+    ("<=", "<", true, true),
+    (">=", "<", false, true),
+    ("> signed", "< signed", true, false),
+    ("<= signed", "< signed", true, true),
+    (">= signed", "< signed", false, true),
+];
+
+/// The operator of a sign, with its word if it has one.
+pub fn operator(written: &str) -> Option<Operator> {
+    let known = COMPARISONS.iter().find(|(sign, ..)| *sign == written);
+    let (sign, swapped, negated) = known
+        .map_or((written, false, false), |&(_, made_of, swapped, negated)| {
+            (made_of, swapped, negated)
+        });
+    let operation = OPERATIONS.iter().position(|known| *known == sign)? as u32;
+    Some(Operator { operation, swapped, negated })
+}
