@@ -174,6 +174,16 @@ fn types_that_break_rules() {
     assert_eq!(found.message, "the parameters of function 0 are i32");
 }
 
+/// Several errors of one line are said if none follows from the other.
+#[test]
+fn several_errors_of_a_line() {
+    let found = errors(&around("a = x + y"));
+    let columns: Vec<usize> = found.iter().map(|error| error.place.column).collect();
+    assert_eq!(columns, [17, 21], "{found:?}");
+    let found = errors(&around("z = g(x, a, y)"));
+    assert_eq!(found.len(), 4, "{found:?}");
+}
+
 /// Errors that only follow from another are not said.
 #[test]
 fn one_error_for_one_cause() {

@@ -71,6 +71,18 @@ impl From<Error> for Fault {
     }
 }
 
+/// A result, whose error is put to the others.
+pub fn keep<T>(result: Result<T, impl Into<Fault>>, errors: &mut Vec<Error>) -> Option<T> {
+    match result.map_err(Into::into) {
+        Ok(known) => Some(known),
+        Err(Fault::New(error)) => {
+            errors.push(error);
+            None
+        }
+        Err(Fault::Known) => None,
+    }
+}
+
 /// The terms of a function's regions, registers and result.
 pub struct Signature {
     pub regions: Vec<u8>,
@@ -181,16 +193,8 @@ impl<'t> Assembler<'t> {
         known
     }
 
-    /// A result, whose error is kept.
     fn take<T>(&mut self, result: Result<T, impl Into<Fault>>) -> Option<T> {
-        match result.map_err(Into::into) {
-            Ok(known) => Some(known),
-            Err(Fault::New(error)) => {
-                self.errors.push(error);
-                None
-            }
-            Err(Fault::Known) => None,
-        }
+        keep(result, &mut self.errors)
     }
 
     /// Names with their numbers. A name that is there already is an error and keeps its number.

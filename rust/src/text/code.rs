@@ -2,7 +2,7 @@
 //! registers that are added behind the declared ones, one for each width and number in a line, and
 //! are used again by the next line. What an `if` compares goes into the first added i8.
 
-use super::assembler::{names_of, number_of, region_number, Assembler, Fault, Signature};
+use super::assembler::{keep, names_of, number_of, region_number, Assembler, Fault, Signature};
 use super::error::Error;
 use super::hints;
 use super::lexer::Span;
@@ -103,6 +103,9 @@ pub struct Coder<'a, 't> {
     missing: HashSet<String>,
     errors: Vec<Error>,
     code: Code<'t>,
+    labels: HashMap<&'t str, u32>,
+    /// The number of the next instruction.
+    next: u32,
     /// Jumps by their records, whose targets are known when all labels are.
     jumps: Vec<(usize, &'t Reference)>,
     /// The widths of the numbers of this line so far.
@@ -134,6 +137,8 @@ impl<'a, 't> Coder<'a, 't> {
                 whole: true,
                 ended: true,
             },
+            labels: HashMap::new(),
+            next: 0,
             jumps: Vec::new(),
             numbers: Vec::new(),
             unknown: false,
@@ -167,21 +172,24 @@ impl<'a, 't> Coder<'a, 't> {
         match line {
             Line::Label(name) => self.label(name),
             Line::Raw(record, span) => {
-                self.code.records.push((*record, *span));
+                self.push(*record, *span);
                 self.code.ended = true;
             }
             Line::Instruction(statement, span) => {
-                let (records, jumps) = (self.code.records.len(), self.jumps.len());
+                let (records, jumps, next) = (self.code.records.len(), self.jumps.len(), self.next);
                 self.numbers.clear();
                 self.unknown = false;
+                // Of several registers that are not there each is said.
+                for name in statement.registers() {
+                    let register = self.register(name);
+                    keep(register, &mut self.errors);
+                }
                 let made = self.statement(statement, *span);
-                self.code.ended = made.is_ok() && !self.unknown;
+                self.code.ended = keep(made, &mut self.errors).is_some() && !self.unknown;
                 if !self.code.ended {
                     self.code.records.truncate(records);
                     self.jumps.truncate(jumps);
-                }
-                if let Err(Fault::New(error)) = made {
-                    self.errors.push(error);
+                    self.next = next;
                 }
             }
             Line::Unknown => self.code.ended = false,
@@ -190,20 +198,17 @@ impl<'a, 't> Coder<'a, 't> {
     }
 
     fn label(&mut self, name: &'t Name) {
-        if self.code.labels.iter().any(|(known, _)| *known == name.text) {
+        if self.labels.contains_key(name.text.as_str()) {
             let message = format!("expected a new label: `{}` is there", name.text);
             self.errors.push(Error::new(name.span, message));
             return;
         }
-        self.code.labels.push((&name.text, self.next()));
-    }
-
-    /// The number of the next instruction.
-    fn next(&self) -> u32 {
-        self.code.instructions() as u32
+        self.labels.insert(&name.text, self.next);
+        self.code.labels.push((&name.text, self.next));
     }
 
     fn push(&mut self, record: Record, span: Span) {
+        self.next += u32::from(record.kind() != KIND_ARGUMENTS);
         self.code.records.push((record, span));
     }
 
@@ -218,12 +223,12 @@ impl<'a, 't> Coder<'a, 't> {
             Reference::Number(number, _) => return Some(*number),
             Reference::Named(name) => name,
         };
-        let known = self.code.labels.iter().find(|(label, _)| *label == name.text);
+        let known = self.labels.get(name.text.as_str()).copied();
         if known.is_none() && self.missing.insert(format!("label {}", name.text)) {
             let message = format!("expected a label of this function: `{}` is none", name.text);
             self.errors.push(Error::new(name.span, message));
         }
-        known.map(|(_, at)| *at)
+        known
     }
 
     fn register(&mut self, name: &Name) -> Result<u8, Fault> {
@@ -430,12 +435,8 @@ impl<'a, 't> Coder<'a, 't> {
     ) -> Result<(), Fault> {
         let (first, second) = self.operands(left, right, None)?;
         if operator.negated && operator.operation == code::EQUAL {
-            let register = if let Value::Register(name) = left { Some(name) } else { None };
-            let other = if let Value::Register(name) = right { Some(name) } else { None };
-            let width = match register.or(other) {
-                Some(name) => self.width(name)?,
-                None => I32,
-            };
+            let either = left.register().or(right.register()).expect("a side has the width");
+            let width = self.width(either)?;
             let differing = self.added(width, 0);
             self.push(code::operation(code::EXCLUSIVE_OR, differing, first, second), span);
             self.jump(code::branch(differing, 0), target, span);
@@ -445,7 +446,7 @@ impl<'a, 't> Coder<'a, 't> {
         let flag = self.added(I8, 0);
         self.push(code::operation(operator.operation, flag, first, second), span);
         if operator.negated {
-            let behind = self.next() + 2;
+            let behind = self.next + 2;
             self.push(code::branch(flag, behind), span);
             self.jump(code::jump(0), target, span);
         } else {

@@ -46,11 +46,20 @@ impl Error {
     }
 }
 
-/// Errors by their places, of each line the first: what else is wrong with a line may only follow. A
-/// rule of the checker is not asked of a line that has no meaning.
+/// Errors by their places, of each line the first: what else cannot be read there may only follow.
+pub fn first_in_lines(mut errors: Vec<Error>) -> Vec<Error> {
+    errors.sort_by_key(|error| (error.place.line, error.place.column));
+    errors.dedup_by_key(|error| error.place.line);
+    errors
+}
+
+/// Errors by their places, each once. Of a line one broken rule of the checker is said, and none if
+/// something in it has no meaning.
 pub fn in_order(mut errors: Vec<Error>) -> Vec<Error> {
     errors.sort_by_key(|error| (error.place.line, error.refused, error.place.column));
-    errors.dedup_by_key(|error| error.place.line);
+    errors.dedup_by(|later, earlier| {
+        later.place.line == earlier.place.line && (later.refused || later == earlier)
+    });
     errors
 }
 

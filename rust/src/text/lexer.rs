@@ -63,6 +63,8 @@ const SIGNS: [&str; 45] = [
 struct Lexer<'t> {
     rest: &'t str,
     place: Place,
+    /// No sign closes a comment of C from here on.
+    unclosed: bool,
 }
 
 impl<'t> Lexer<'t> {
@@ -156,7 +158,11 @@ impl<'t> Lexer<'t> {
     /// A comment of C: to the end of its line, or to its closing sign if there is one.
     fn take_comment(&mut self, sign: &str) {
         let line = self.rest.find('\n').unwrap_or(self.rest.len());
-        let close = self.rest.find("*/").filter(|_| sign == "/*").map(|at| at + "*/".len());
+        let close = match sign {
+            "/*" if !self.unclosed => self.rest.find("*/").map(|at| at + "*/".len()),
+            _ => None,
+        };
+        self.unclosed |= sign == "/*" && close.is_none();
         let comment = self.take(close.unwrap_or(line));
         if let Some(at) = comment.rfind('\n') {
             self.place.line += comment.matches('\n').count();
@@ -186,7 +192,8 @@ pub fn without_mark(text: &str) -> &str {
 /// All tokens of a text, the last is its end, and what has no meaning. A comment goes from `#` to
 /// the end of its line.
 pub fn tokens(text: &str) -> (Vec<(Token, Span)>, Vec<Error>) {
-    let mut lexer = Lexer { rest: without_mark(text), place: Place { line: 1, column: 1 } };
+    let place = Place { line: 1, column: 1 };
+    let mut lexer = Lexer { rest: without_mark(text), place, unclosed: false };
     let (mut tokens, mut errors) = (Vec::new(), Vec::new());
     loop {
         let before = lexer.place;

@@ -1,7 +1,7 @@
 //! Parses a text. Lines end instructions and declarations; inside brackets they do not count. What
 //! cannot be read is an error, behind which the next line or item is read all the same.
 
-use super::error::Error;
+use super::error::{first_in_lines, Error};
 use super::hints;
 use super::lexer::{tokens, Span, Token};
 use super::syntax::{
@@ -28,7 +28,7 @@ pub fn parse(text: &str) -> (Vec<Item>, Vec<Error>) {
     loop {
         parser.skip_lines();
         if *parser.peek() == Token::End {
-            return (items, parser.errors);
+            return (items, first_in_lines(parser.errors));
         }
         match parser.item() {
             Ok(item) => items.push(item),
@@ -670,12 +670,10 @@ impl Parser {
 
     /// A list in square brackets and then an opening bracket: regions of a call.
     fn is_call(&self) -> bool {
-        let rest = &self.tokens[self.at..];
-        let closed = rest.iter().position(|(token, _)| *token == Token::Sign("]"));
-        closed.is_some_and(|at| {
-            matches!(rest.get(at + 1), Some((Token::Sign("("), _)))
-                && !rest[..at].iter().any(|(token, _)| *token == Token::Line)
-        })
+        let line = self.tokens[self.at..].iter().map(|(token, _)| token);
+        let line = line.take_while(|token| **token != Token::Line);
+        let mut closed = line.skip_while(|token| **token != Token::Sign("]")).skip(1);
+        closed.next() == Some(&Token::Sign("("))
     }
 
     fn regions_and_call(&mut self, a: Name, function: Name) -> Result<Statement, Error> {

@@ -179,7 +179,40 @@ impl Operator {
     }
 }
 
+impl Statement {
+    /// The names of registers in the statement.
+    pub fn registers(&self) -> Vec<&Name> {
+        fn of<'s>(values: &[&'s Value]) -> Vec<&'s Name> {
+            values.iter().filter_map(|value| value.register()).collect()
+        }
+        match self {
+            Statement::Plain { a, b, c, .. } => [a, b, c].into_iter().flatten().collect(),
+            Statement::Constant { a, .. } => vec![a],
+            Statement::Path { a, b, .. } => vec![a, b],
+            Statement::Operation { a, left, right, .. } => [vec![a], of(&[left, right])].concat(),
+            Statement::Check { a, value }
+            | Statement::Store { a, value }
+            | Statement::Form { a, place: value } => [vec![a], of(&[value])].concat(),
+            Statement::Output { value }
+            | Statement::Branch { value, .. }
+            | Statement::Return { value } => of(&[value]),
+            Statement::Compare { left, right, .. } => of(&[left, right]),
+            Statement::Jump { .. } => Vec::new(),
+            Statement::Call { a, arguments, .. } => {
+                [vec![a], arguments.iter().filter_map(Value::register).collect()].concat()
+            }
+        }
+    }
+}
+
 impl Value {
+    pub fn register(&self) -> Option<&Name> {
+        match self {
+            Value::Register(name) => Some(name),
+            Value::Number(_) => None,
+        }
+    }
+
     pub fn span(&self) -> Span {
         match self {
             Value::Register(name) => name.span,
