@@ -82,6 +82,8 @@ fn hints_for_what_c_writes() {
         ("reg int x", "a name stands before its type"),
         ("p = NULL", "a pointer starts as zero and is tested by its address"),
         ("a = true", "write 1"),
+        ("a = false", "write 0"),
+        ("*p = 5", "a value is stored through a pointer"),
         ("a = b // the same", "a comment goes from `#`"),
         ("/* nothing */", "a comment goes from `#`"),
         ("a = b;", "a line ends without `;`"),
@@ -143,6 +145,11 @@ fn hints_for_items() {
             format!("fn f() -> i32 {body}\nfn g() -> *i32 in r {{\n region r: i32\n reg p: *i32 in r\n return p\n}}"),
             4,
             "the caller gives the region",
+        ),
+        (
+            "fn f() -> i32 {\n region r: i8\n reg a: i32\n a = g[r](0)\n return a\n}\nfn g[r: i8](p: *i8 in r) -> i32 {\n return 0\n}".to_string(),
+            4,
+            "a pointer starts as zero",
         ),
     ] {
         let found = error(&text);

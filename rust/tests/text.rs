@@ -168,9 +168,9 @@ fn random_modules() {
         }
         let mut damaged = damage(&mut rng, sample.records);
         let text = round_trip(&damaged);
-        // Refusals 5 to 8 are the rules that a text is asked; 1 to 4 are about the file.
+        // Refusals 1 to 3 are about the blocks, which a text has lines for.
         let [answer, number, ..] = host::check(&damaged);
-        if answer == host::REFUSED && number > 4 {
+        if answer == host::REFUSED && number >= 4 {
             let errors = assemble_all(&text, "text").err().expect("a broken rule");
             assert!(errors.iter().all(|error| error.refused), "{errors:?}\n{text}");
             let made = assemble_unchecked(&text, "text").expect("the same file");
@@ -212,6 +212,10 @@ fn errors_say_where_and_what() {
         (&inside("goto x"), (3, 10), "expected a label of this function: `x` is none"),
         (&inside("r = g()"), (3, 9), "expected a function: `g` is none"),
         (&inside("r = f(r)"), (3, 9), "expected 0 arguments for `f`, found 1"),
+        (&inside("if 1 < 2 goto 0"), (3, 8), "expected a register on one side: numbers alone"),
+        (&inside("r = r + -2147483649"), (3, 13), "expected a number that fits i32"),
+        (&inside("r = unsigned 5"), (3, 18), "expected a register, found the number 5"),
+        (&inside("r = r == signed r"), (3, 14), "expected a register or a number, found `signed`"),
         (&inside("r = r + new"), (3, 13), "expected a register or a number, found `new`"),
         (&inside("r = r r"), (3, 11), "expected the end of the line, found `r`"),
         (&inside("r = r.x"), (3, 9), "expected a pointer: `r` is none"),

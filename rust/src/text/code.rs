@@ -289,15 +289,18 @@ impl<'a, 't> Coder<'a, 't> {
 
     /// The same where a value of this term is wanted.
     fn value_of(&mut self, value: &Value, term: &Term) -> Result<u8, Fault> {
-        match (value, term) {
-            (_, Term::Integer { width }) => self.value(value, *width),
-            (Value::Register(name), _) => self.register(name),
-            (Value::Number(_), _) if self.unknown => Err(Fault::Known),
-            (Value::Number(number), _) => {
-                let message = format!("expected a pointer, found the number {}", number.value);
-                Err(Error::new(number.span, message).hinting(hints::of_value("NULL")).into())
-            }
-        }
+        let number = match (value, term) {
+            (_, Term::Integer { width }) => return self.value(value, *width),
+            (Value::Register(name), _) => return self.register(name),
+            (Value::Number(number), _) => number,
+        };
+        let (wanted, hint) = match term {
+            _ if self.unknown => return Err(Fault::Known),
+            Term::Pointer { .. } => ("a pointer", hints::of_value("NULL")),
+            _ => ("a struct or an array", hints::STORE),
+        };
+        let message = format!("expected {wanted}, found the number {}", number.value);
+        Err(Error::new(number.span, message).hinting(hint).into())
     }
 
     /// The width of an integer register that a number is put beside.

@@ -12,7 +12,7 @@ use crate::builder::{self, code};
 use crate::checker::{self, Typing, ENDS};
 use crate::file::Record;
 use crate::module::{self, decode, Instruction, Module, Term, KIND_CALL, TARGET};
-use crate::types::{sizes, Sizes, Type, TypeId, Types, Variable, MAX_SIZE};
+use crate::types::{regions_used, sizes, Sizes, Type, TypeId, Types, Variable, MAX_SIZE};
 
 /// Rules that are broken, and what only warns.
 #[derive(Default)]
@@ -64,11 +64,9 @@ fn checkable<'t>(code: &Code<'t>, sound: bool, refusals: &mut Vec<Error>) -> Cod
     if code.whole {
         refusals.extend(astray(code));
     }
-    for (record, _) in &mut checkable.records {
-        match record.kind() {
-            31 => *record = code::jump(0),
-            32 => *record = code::branch(record.a(), 0),
-            _ => (),
+    for (jump, _) in &mut checkable.records {
+        if matches!(jump.kind(), 31 | 32) {
+            *jump = builder::record(jump.kind(), jump.a(), jump.b(), jump.c(), 0);
         }
     }
     if !sound {
@@ -84,8 +82,7 @@ fn checkable<'t>(code: &Code<'t>, sound: bool, refusals: &mut Vec<Error>) -> Cod
 /// end if it stands last.
 fn astray(code: &Code) -> Vec<Error> {
     let count = code.instructions();
-    let last = code.function.code.last();
-    let branches_over = match last {
+    let branches_over = match code.function.code.last() {
         Some(Line::Instruction(Statement::Compare { operator, .. }, span)) => {
             (operator.negated && operator.operation != code::EQUAL).then_some(*span)
         }
@@ -188,8 +185,7 @@ impl<'a> Text<'a, '_> {
 
     /// The result names a local region.
     fn leaves(&self, function: &module::Function) -> bool {
-        let used = crate::types::regions_used(self.module, function.return_term);
-        used > function.region_parameters
+        regions_used(self.module, function.return_term) > function.region_parameters
     }
 
     /// An instruction that breaks its rule.
@@ -307,16 +303,14 @@ fn is_part(
             }
             Type::Name(name, arguments) => {
                 let fields = &module.names[usize::from(name)].fields;
-                let mut fields = fields.iter().map(|&field| types.term(field, &arguments));
-                let fields: Vec<TypeId> = fields.by_ref().collect();
-                let at = fields.into_iter().find(|&field| {
-                    let count = types.primitives(field).len();
-                    let inside = left < count;
-                    left -= if inside { 0 } else { count };
-                    inside
-                });
-                let Some(field) = at else { return false };
-                inner = field;
+                for &field in fields {
+                    inner = types.term(field, &arguments);
+                    let count = types.primitives(inner).len();
+                    if left < count {
+                        break;
+                    }
+                    left -= count;
+                }
             }
             Type::Integer(_) | Type::Pointer(..) => return false,
         }
