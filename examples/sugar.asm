@@ -4,7 +4,7 @@
 # how many there were.
 #: accepted
 #: form 70 50 20 90 0
-#: ended 4 119
+#: ended 4 129
 #: output '+' '=' '-' '+' 10 4
 
 fn main() -> i32 {
@@ -28,7 +28,7 @@ next:
     goto next
 above:
     output '+'
-    goto next
+    if 1 goto next
 below:
     output '-'
     goto next
@@ -41,6 +41,10 @@ done:
     if count >= signed 0 goto failed
     flag = at <= limit
     if flag < 1 goto failed
+    flag = at > limit
+    if flag goto failed
+    flag = limit >= at
+    if flag == 0 goto failed
     count = minimum(at, 100)
     flag = unsigned count
     output flag

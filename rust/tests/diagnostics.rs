@@ -115,6 +115,9 @@ fn hints_for_what_c_writes() {
         ("*at = half", "`a = unsigned b` and `a = signed b`"),
         ("return small", "`a = unsigned b` and `a = signed b`"),
         ("a = b < 5", "a comparison gives an i8"),
+        ("at = p.next", "a pointer to it is **node(list) in list in list"),
+        ("at = row[a]", "a pointer to it is *i8 in rows"),
+        ("at = row[1]", "a pointer to it is *i8 in rows"),
         ("at = p[a]", "only a pointer to an array has elements"),
         ("a = *b", "only a pointer leads to a value"),
     ] {
@@ -263,6 +266,7 @@ const TEN_SAID: &str = "\
 ten.asm:14:5: error: a field's pointer stays in its region and points to primitives that stand at this position of the target
    14 |     at = p.value
       |     ^^^^^^^^^^^^ at is *i16 in list, p is *node(list) in list
+   hint: a pointer to it is *i32 in list
 ten.asm:15:5: error: a load's register has the type that its pointer points to
    15 |     sum = *at
       |     ^^^^^^^^^ sum is i32, at is *i16 in list
@@ -373,6 +377,7 @@ fn runs_that_are_no_part_warn() {
         "{}",
         ran.error
     );
+    assert!(ran.error.ends_with("   hint: a pointer to it is *[i8; 5] in r\n"), "{}", ran.error);
     assert_eq!(files(&folder), ["module", "module.map", "text"]);
 }
 

@@ -133,7 +133,7 @@ fn functions(items: &[Item]) -> impl Iterator<Item = &Function> {
     })
 }
 
-fn structs(items: &[Item]) -> impl Iterator<Item = &Struct> {
+pub fn structs(items: &[Item]) -> impl Iterator<Item = &Struct> {
     items.iter().filter_map(|item| match item {
         Item::Struct(structure) => Some(structure),
         _ => None,

@@ -2,12 +2,12 @@
 //! words, and what it allows but is seldom meant. The rules are the reference checker's; a module is
 //! accepted or refused by the proved one alone.
 
-use super::assembler::Draft;
+use super::assembler::{structs, Draft};
 use super::code::Code;
 use super::error::Error;
 use super::hints;
 use super::lexer::{Place, Span};
-use super::syntax::{Function, Line, Statement, Typed};
+use super::syntax::{Function, Item, Line, Name, Part, Statement, TypeForm, Typed};
 use crate::builder::{self, code};
 use crate::checker::{self, Typing, ENDS};
 use crate::file::Record;
@@ -41,7 +41,7 @@ pub fn diagnose(draft: &Draft) -> Diagnosis {
     let all: Vec<Record> = records.iter().map(|(record, _)| *record).collect();
     match decode(&builder::file(&all)) {
         Ok(module) => {
-            let text = Text { module: &module, records: &records, code: &code };
+            let text = Text { items: draft.items, module: &module, records: &records, code: &code };
             refusals.extend(text.refusals());
             let warnings = if refusals.is_empty() { text.warnings() } else { Vec::new() };
             Diagnosis { refusals, warnings }
@@ -103,6 +103,7 @@ fn astray(code: &Code) -> Vec<Error> {
 
 /// A module with the text that it comes from.
 struct Text<'a, 't> {
+    items: &'a [Item],
     module: &'a Module,
     records: &'a [(Record, Span)],
     code: &'a [Code<'t>],
@@ -201,7 +202,46 @@ impl<'a> Text<'a, '_> {
         };
         let types = self.operands(function, written, instruction);
         let operands = Operands { module: self.module, function };
-        Error::refusing(span, asked, types).hinting(operands.hint(instruction))
+        let hint = match operands.hint(instruction) {
+            "" => self.part_hint(written, span),
+            hint => hint.to_string(),
+        };
+        Error::refusing(span, asked, types).hinting(hint)
+    }
+
+    /// The type of a pointer to the field or element of a line, as far as the text says it without
+    /// names for types.
+    fn part_hint(&self, written: &Function, span: Span) -> String {
+        let line = written.code.iter().find_map(|line| match line {
+            Line::Instruction(statement, at) if *at == span => Some(statement),
+            _ => None,
+        });
+        let part = match line {
+            Some(Statement::Path { b, path, .. }) => self.part_type(written, b, path),
+            Some(Statement::Plain { kind: 24, b: Some(b), .. }) => {
+                self.part_type(written, b, &[Part::Element(0, b.span)])
+            }
+            _ => None,
+        };
+        part.map_or(String::new(), |part| format!("a pointer to it is {part}"))
+    }
+
+    fn part_type(&self, written: &Function, pointer: &Name, path: &[Part]) -> Option<String> {
+        let pointer = written.registers.iter().find(|one| one.name.text == pointer.text)?;
+        let TypeForm::Pointer(target, region) = &pointer.written.form else { return None };
+        let mut inner = (**target).clone();
+        for part in path {
+            inner = match (&inner.form, part) {
+                (TypeForm::Array(element, _), Part::Element(..)) => (**element).clone(),
+                (TypeForm::Named(name, given), Part::Field(field)) => {
+                    let structure = structs(self.items).find(|one| one.name.text == *name)?;
+                    let found = structure.fields.iter().find(|one| one.name.text == field.text)?;
+                    found.written.with(&structure.regions, given)
+                }
+                _ => return None,
+            };
+        }
+        Some(format!("*{inner} in {region}"))
     }
 
     /// The types of an instruction's registers, of the regions that it needs, and of its callee.
@@ -269,10 +309,10 @@ impl<'a> Text<'a, '_> {
                     continue;
                 };
                 if !is_part(self.module, typing.types, whole, part, field.d as usize) {
-                    let found = self.operands(function, written, field);
-                    let mut warning = Error::new(self.span(field.place), RUN);
-                    warning.found = found;
-                    warnings.push(warning);
+                    let span = self.span(field.place);
+                    let mut warning = Error::new(span, RUN);
+                    warning.found = self.operands(function, written, field);
+                    warnings.push(warning.hinting(self.part_hint(written, span)));
                 }
             }
         }

@@ -147,6 +147,29 @@ pub enum Item {
     UnknownFunction(Name),
 }
 
+impl Type {
+    /// The type with regions put for those of the struct that it is written in.
+    pub fn with(&self, own: &[Name], given: &[Reference]) -> Type {
+        let region = |written: &Reference| {
+            let at = match written {
+                Reference::Named(name) => own.iter().position(|own| own.text == name.text),
+                Reference::Number(number, _) => Some(*number as usize),
+            };
+            at.and_then(|at| given.get(at)).unwrap_or(written).clone()
+        };
+        let inner = |inner: &Type| Box::new(inner.with(own, given));
+        let form = match &self.form {
+            TypeForm::Pointer(target, written) => TypeForm::Pointer(inner(target), region(written)),
+            TypeForm::Array(element, count) => TypeForm::Array(inner(element), *count),
+            TypeForm::Named(name, regions) => {
+                TypeForm::Named(name.clone(), regions.iter().map(region).collect())
+            }
+            TypeForm::Integer(_) | TypeForm::Unknown => self.form.clone(),
+        };
+        Type { form, span: self.span }
+    }
+}
+
 /// A type as the text writes it.
 impl fmt::Display for Type {
     fn fmt(&self, out: &mut fmt::Formatter) -> fmt::Result {
