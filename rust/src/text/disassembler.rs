@@ -3,28 +3,32 @@
 //! no module is written record by record.
 
 use super::assembler::assemble;
+use super::names::{Names, Scope};
 use super::syntax::{CONVERSIONS, OPERATIONS};
 use crate::builder::{self, repair_checks};
 use crate::file::{Record, BLOCK_BYTES, CHECK_AT, RECORDS_AT, RECORDS_PER_BLOCK, RECORD_BYTES};
 use crate::module::{
-    decode, Function, Instruction, Module, Term, KIND_ARGUMENTS, KIND_FIELDS, KIND_REGISTER_TYPES,
+    decode, Instruction, Module, Term, KIND_ARGUMENTS, KIND_CALL, KIND_FIELDS, KIND_REGISTER_TYPES,
 };
 use crate::types::{primitive_count, sizes, Sizes, MAX_SIZE};
 
 /// A text that `assemble` turns into this file.
 pub fn disassemble(file: &[u8]) -> String {
     let texts = decode(file).ok().map(|module| {
-        [true, false].map(|inline| Listing::new(&module, inline).text() + &file_lines(file))
+        [true, false].map(|inline| {
+            let listing = Listing { inline, ..Listing::new(&module, Names::numbered()) };
+            listing.text() + &file_lines(file)
+        })
     });
     let found = texts.into_iter().flatten().find(|text| assemble(text).as_deref() == Ok(file));
     found.unwrap_or_else(|| raw_text(file))
 }
 
-/// The parts of a module as text. Registers are r0, r1, .., regions R0, R1, .., functions f0,
-/// f1, .., structs s0, s1, .. with fields x0, x1, .., labels L and the instruction's number.
+/// The parts of a module as text, in these names.
 pub struct Listing<'m> {
-    module: &'m Module,
-    sizes: Sizes,
+    pub module: &'m Module,
+    pub names: Names<'m>,
+    pub sizes: Sizes,
     /// Types are written in full; else by the names t0, t1, ...
     inline: bool,
 }
@@ -33,34 +37,29 @@ fn comma(words: impl Iterator<Item = String>) -> String {
     words.collect::<Vec<String>>().join(", ")
 }
 
-/// A region variable where so many are in scope; others are written as numbers.
-fn region_text(region: u8, scope: usize) -> String {
-    if usize::from(region) < scope {
-        return format!("R{region}");
+/// A list in brackets, if there is something in it.
+fn bracketed(open: &str, list: String, close: &str) -> String {
+    if list.is_empty() {
+        return list;
     }
-    region.to_string()
+    format!("{open}{list}{close}")
 }
 
 impl<'m> Listing<'m> {
-    pub fn new(module: &'m Module, inline: bool) -> Listing<'m> {
-        Listing { module, sizes: sizes(module), inline }
+    /// Types are written in full.
+    pub fn new(module: &'m Module, names: Names<'m>) -> Listing<'m> {
+        Listing { module, names, sizes: sizes(module), inline: true }
     }
 
     fn text(&self) -> String {
         let mut text = String::new();
         if !self.inline {
             for term in 0..self.module.terms.len() as u8 {
-                text += &format!("type t{term} = {}\n", self.form_text(term, 0));
+                text += &format!("type t{term} = {}\n", self.form_text(term, Scope::Table));
             }
         }
-        for (number, name) in self.module.names.iter().enumerate() {
-            let regions = comma((0..name.regions as u8).map(|region| format!("R{region}")));
-            let regions = if regions.is_empty() { regions } else { format!("({regions})") };
-            text += &format!("\nstruct s{number}{regions} {{\n");
-            for (index, &field) in name.fields.iter().enumerate() {
-                text += &format!("    x{index}: {}\n", self.type_text(field, name.regions));
-            }
-            text += "}\n";
+        for number in 0..self.module.names.len() {
+            text += &self.struct_text(number);
         }
         for number in 0..self.module.functions.len() {
             text += &self.function_text(number);
@@ -68,55 +67,84 @@ impl<'m> Listing<'m> {
         text.trim_start().to_string()
     }
 
-    /// A term where so many regions are in scope.
-    pub fn type_text(&self, term: u8, scope: usize) -> String {
+    fn struct_text(&self, number: usize) -> String {
+        let structure = &self.module.names[number];
+        let (scope, name) = (Scope::Struct(number), number as u8);
+        let regions = comma((0..structure.regions as u8).map(|one| self.region_text(one, scope)));
+        let regions = bracketed("(", regions, ")");
+        let mut text = format!("\nstruct {}{regions} {{\n", self.names.structure(name));
+        for (index, &field) in structure.fields.iter().enumerate() {
+            let written = self.type_text(field, scope);
+            text += &format!("    {}: {written}\n", self.names.field(name, index));
+        }
+        text + "}\n"
+    }
+
+    /// A region variable that is in scope by its name, others as numbers.
+    pub fn region_text(&self, region: u8, scope: Scope) -> String {
+        let in_scope = match scope {
+            Scope::Function(number) => self.module.functions[number].region_types.len(),
+            Scope::Struct(number) => self.module.names[number].regions,
+            Scope::Table => 0,
+        };
+        if usize::from(region) < in_scope {
+            return self.names.region(scope, region);
+        }
+        region.to_string()
+    }
+
+    pub fn type_text(&self, term: u8, scope: Scope) -> String {
         if !self.inline {
             return format!("t{term}");
         }
         self.form_text(term, scope)
     }
 
-    fn form_text(&self, term: u8, scope: usize) -> String {
+    fn form_text(&self, term: u8, scope: Scope) -> String {
         match &self.module.terms[usize::from(term)] {
             Term::Integer { width } => format!("i{}", 8 * u32::from(*width)),
             Term::Pointer { target, region } => {
                 let target = self.type_text(*target, scope);
-                format!("*{target} in {}", region_text(*region, scope))
+                format!("*{target} in {}", self.region_text(*region, scope))
             }
             Term::Array { element, count } => {
                 format!("[{}; {count}]", self.type_text(*element, scope))
             }
-            Term::Name { name, arguments } if arguments.is_empty() => format!("s{name}"),
             Term::Name { name, arguments } => {
-                let regions = arguments.iter().map(|&region| region_text(region, scope));
-                format!("s{name}({})", comma(regions))
+                let regions = arguments.iter().map(|&region| self.region_text(region, scope));
+                self.names.structure(*name) + &bracketed("(", comma(regions), ")")
             }
         }
     }
 
     fn function_text(&self, number: usize) -> String {
         let function = &self.module.functions[number];
-        let scope = function.region_types.len();
+        let scope = Scope::Function(number);
+        let locals = function.region_types.len();
         let region = |index: usize| {
-            format!("R{index}: {}", self.type_text(function.region_types[index], scope))
+            let written = self.type_text(function.region_types[index], scope);
+            format!("{}: {written}", self.names.region(scope, index as u8))
         };
+        let register = |index: usize| self.names.register(number, index as u8);
         let parameter = |index: usize| {
-            format!("r{index}: {}", self.type_text(function.register_types[index], scope))
+            let written = self.type_text(function.register_types[index], scope);
+            format!("{}: {written}", register(index))
         };
-        let regions = comma((0..function.region_parameters).map(region));
-        let regions = if regions.is_empty() { regions } else { format!("[{regions}]") };
+        let regions = bracketed("[", comma((0..function.region_parameters).map(region)), "]");
         let parameters = comma((0..function.parameters).map(parameter));
         let result = self.type_text(function.return_term, scope);
-        let mut text = format!("\nfn f{number}{regions}({parameters}) -> {result} {{\n");
-        for index in function.region_parameters..scope {
+        let name = self.names.function(number);
+        let mut text = format!("\nfn {name}{regions}({parameters}) -> {result} {{\n");
+        for index in function.region_parameters..locals {
             text += &format!("    region {}\n", region(index));
         }
         let mut from = function.parameters;
         while let Some(&term) = function.register_types.get(from) {
             let alike = function.register_types[from..].iter().take_while(|&&next| next == term);
-            let names = comma((from..from + alike.count()).map(|index| format!("r{index}")));
-            from += names.split(',').count();
+            let end = from + alike.count();
+            let names = comma((from..end).map(register));
             text += &format!("    reg {names}: {}\n", self.type_text(term, scope));
+            from = end;
         }
         text += "\n";
         let is_target = |at: usize| {
@@ -125,77 +153,85 @@ impl<'m> Listing<'m> {
         };
         for (at, instruction) in function.code.iter().enumerate() {
             if is_target(at) {
-                text += &format!("L{at}:\n");
+                text += &format!("{}:\n", self.names.label(number, at as u32));
             }
-            text += &format!("    {}\n", self.instruction_text(function, instruction));
+            text += &format!("    {}\n", self.instruction_text(number, instruction));
         }
         text + "}\n"
     }
 
     /// An instruction of a function, its operands in range.
-    pub fn instruction_text(&self, function: &Function, instruction: &Instruction) -> String {
-        let Instruction { kind, a, b, c, d, arguments, .. } = *instruction;
-        let operation = || OPERATIONS[d as usize];
+    pub fn instruction_text(&self, function: usize, instruction: &Instruction) -> String {
+        let Instruction { kind, a, b, c, d, .. } = *instruction;
+        if kind == KIND_CALL {
+            return self.call_text(function, instruction);
+        }
+        // Operands that a kind does not use are zero, and every function has a register 0.
+        let [a, b, c] = [a, b, c].map(|register| self.names.register(function, register));
         match kind {
-            16 => format!("r{a} = {d}"),
-            17 => format!("r{a} = r{b}"),
-            18 => format!("r{a} = r{b} {} r{c}", operation()),
+            16 => format!("{a} = {d}"),
+            17 => format!("{a} = {b}"),
+            18 => format!("{a} = {b} {} {c}", OPERATIONS[d as usize]),
             23 => match self.path_text(function, instruction) {
-                Some(path) => format!("r{a} = r{b}{path}"),
-                None => format!("r{a} = field r{b} {d}"),
+                Some(path) => format!("{a} = {b}{path}"),
+                None => format!("{a} = field {b} {d}"),
             },
-            24 => format!("r{a} = r{b}[r{c}]"),
-            25 => format!("r{a} = *r{b}"),
-            26 => format!("*r{a} = r{b}"),
-            27 => format!("r{a} = new"),
-            28 => format!("free r{a}"),
-            29 => format!("r{a} = form[r{c}]"),
-            30 => format!("output r{b}"),
-            31 => format!("goto L{d}"),
-            32 => format!("if r{a} goto L{d}"),
-            33 => {
-                let callee = &self.module.functions[usize::from(b)];
-                let scope = function.region_types.len();
-                let regions = d.to_le_bytes();
-                let regions = regions.iter().take(callee.region_parameters);
-                let regions = comma(regions.map(|&region| region_text(region, scope)));
-                let regions = if regions.is_empty() { regions } else { format!("[{regions}]") };
-                let arguments = arguments.iter().take(callee.parameters);
-                let arguments = comma(arguments.map(|register| format!("r{register}")));
-                format!("r{a} = f{b}{regions}({arguments})")
-            }
-            34 => format!("return r{a}"),
+            24 => format!("{a} = {b}[{c}]"),
+            25 => format!("{a} = *{b}"),
+            26 => format!("*{a} = {b}"),
+            27 => format!("{a} = new"),
+            28 => format!("free {a}"),
+            29 => format!("{a} = form[{c}]"),
+            30 => format!("output {b}"),
+            31 => format!("goto {}", self.names.label(function, d)),
+            32 => format!("if {a} goto {}", self.names.label(function, d)),
+            34 => format!("return {a}"),
             _ => {
                 let word = CONVERSIONS.iter().find(|(_, conversion)| *conversion == kind);
                 let word = word.map_or("?", |(word, _)| word);
-                format!("r{a} = {word} r{b}")
+                format!("{a} = {word} {b}")
             }
         }
     }
 
+    fn call_text(&self, function: usize, call: &Instruction) -> String {
+        let callee = &self.module.functions[usize::from(call.b)];
+        let scope = Scope::Function(function);
+        let regions = &call.d.to_le_bytes()[..callee.region_parameters];
+        let regions = comma(regions.iter().map(|&region| self.region_text(region, scope)));
+        let register = |&register: &u8| self.names.register(function, register);
+        let arguments = comma(call.arguments[..callee.parameters].iter().map(register));
+        let (result, name) = (register(&call.a), self.names.function(usize::from(call.b)));
+        format!("{result} = {name}{}({arguments})", bracketed("[", regions, "]"))
+    }
+
     /// The target's term of a pointer register.
-    fn target(&self, function: &Function, register: u8) -> Option<u8> {
-        let term = function.register_types[usize::from(register)];
+    pub fn target(&self, function: usize, register: u8) -> Option<u8> {
+        let term = self.module.functions[function].register_types[usize::from(register)];
         match self.module.terms[usize::from(term)] {
             Term::Pointer { target, .. } => Some(target),
             _ => None,
         }
     }
 
-    /// The path to position d: of those that lead there the one to a term like a's target, else
-    /// the shortest. None where there is none, or where the pointer stays as it is.
-    fn path_text(&self, function: &Function, field: &Instruction) -> Option<String> {
+    /// The path of a field instruction.
+    fn path_text(&self, function: usize, field: &Instruction) -> Option<String> {
         let whole = self.target(function, field.b)?;
+        self.path(whole, field.d, self.target(function, field.a))
+    }
+
+    /// The path from a term to a position in it: of those that lead there the one to a term like the
+    /// wanted one, else the shortest. None where there is none, or where it is the whole.
+    pub fn path(&self, whole: u8, position: u32, wanted: Option<u8>) -> Option<String> {
         if self.sizes.terms[usize::from(whole)] > MAX_SIZE {
             return None;
         }
-        let wanted = self.target(function, field.a);
         let fits = |term: u8| wanted.is_some_and(|wanted| self.alike(term, wanted));
-        if field.d == 0 && fits(whole) {
+        if position == 0 && fits(whole) {
             return None;
         }
         let mut shortest = None;
-        let (mut term, mut left, mut path) = (whole, field.d, String::new());
+        let (mut term, mut left, mut path) = (whole, position, String::new());
         loop {
             let (part, inner, before) = self.part_at(term, left)?;
             path += &part;
@@ -230,7 +266,8 @@ impl<'m> Listing<'m> {
                 {
                     let count = primitive_count(self.module, field);
                     if position < before + count {
-                        return Some((format!(".x{index}"), field, before));
+                        let part = format!(".{}", self.names.field(*name, index));
+                        return Some((part, field, before));
                     }
                     before += count;
                 }

@@ -4,8 +4,12 @@
 
 use super::lexer::Place;
 use crate::digest::{hex, sha256};
-use crate::module::Module;
+use crate::file::Record;
+use crate::module::{
+    Module, KIND_ARGUMENTS, KIND_FUNCTION, KIND_INTEGER, KIND_NAME_TERM, MAX_LIST,
+};
 use std::iter::Peekable;
+use std::ops::Range;
 use std::str::Lines;
 
 /// The first line of a map.
@@ -120,6 +124,41 @@ impl Map {
     /// The hash is the file's.
     pub fn is_of(&self, file: &[u8]) -> bool {
         self.hash == sha256(file)
+    }
+
+    /// Where the text has the struct, function or instruction of a record. The file is the map's own
+    /// but may be no module; types, and what stands behind records outside of functions, have no place.
+    pub fn place_of(&self, records: &[Record], record: usize) -> Option<Place> {
+        let spans = self.spans(records);
+        spans.into_iter().find(|(span, _)| span.contains(&record)).map(|(_, place)| place)
+    }
+
+    /// The records of each struct, of each function's head and of each instruction.
+    fn spans(&self, records: &[Record]) -> Vec<(Range<usize>, Place)> {
+        let kind = |at: usize| records.get(at).map_or(0, Record::kind);
+        let is_type = |at: &usize| (KIND_INTEGER..=KIND_NAME_TERM).contains(&kind(*at));
+        let mut at = (0..).take_while(is_type).count();
+        let mut spans = Vec::new();
+        for one in &self.structs {
+            spans.push((at..at + 2, one.place));
+            at += 2;
+        }
+        for one in &self.functions {
+            let registers = one.registers.len();
+            let named = records.get(at).is_some_and(|head| usize::from(head.c()) == registers);
+            if kind(at) != KIND_FUNCTION || !named {
+                break;
+            }
+            let lists = usize::from(!one.regions.is_empty()) + registers.div_ceil(MAX_LIST);
+            spans.push((at..at + 1 + lists, one.place));
+            at += 1 + lists;
+            for place in &one.code {
+                let arguments = (at + 1..).take_while(|&next| kind(next) == KIND_ARGUMENTS).count();
+                spans.push((at..at + 1 + arguments, *place));
+                at += 1 + arguments;
+            }
+        }
+        spans
     }
 }
 

@@ -10,6 +10,7 @@ mod error;
 mod hints;
 mod lexer;
 mod map;
+mod names;
 mod parser;
 mod syntax;
 
@@ -18,3 +19,4 @@ pub use disassembler::{disassemble, file_records, Listing};
 pub use error::{report, Error};
 pub use lexer::Place;
 pub use map::{FunctionNames, Map, StructNames, MAP_HEAD};
+pub use names::{Names, Scope, Source};

@@ -1,48 +1,29 @@
-//! A refusal or a stop in plain words: the rule, and the block, record or instruction at its place
-//! decoded. The number and the place are the checker's; the words only follow them.
+//! A refusal in plain words: the rule, and the block, record or instruction at its place decoded.
+//! The number and the place are the checker's; the words only follow them. Stops are in `stops.rs`.
 
-use super::counted;
 use super::files::MODULE_MAX;
+use super::json::Json;
+use super::{counted, numbers};
 use crate::checker;
 use crate::file::{block_check, Record, BLOCK_BYTES, CHECK_AT};
 use crate::host::Answer;
-use crate::module::{decode, Function, Instruction, Module, Term, KIND_CALL};
-use crate::state::{State, STATE_BYTES};
-use crate::text::{file_records, Listing};
+use crate::module::{decode, Instruction, Module, Term, KIND_CALL};
+use crate::state::STATE_BYTES;
+use crate::text::{file_records, Listing, Map, Names, Scope, Source};
+
+pub use super::stops::stop;
+
+/// What a number means that document 01 does not have.
+const UNKNOWN: &str = "no number of document 01";
 
 /// What a refusal's number means.
 fn refusal_title(number: u64) -> &'static str {
-    match number {
-        1 => "the file's length",
-        2 => "a block's place or count",
-        3 => "a block's check",
-        4 => "a record that is unknown, out of order, over a limit or names nothing",
-        5 => "a type or struct without a size, over 256 bytes or with regions that do not fit",
-        6 => "a function whose types do not fit",
-        7 => "an instruction that breaks its typing rule",
-        8 => "a function whose code runs off its end",
-        9 => "the arguments or the form do not fit",
-        20 => "the state's or the output's length",
-        21 => "the state is not a sound state of this module",
-        22 => "the state has ended or stopped already",
-        _ => "no number of document 01",
-    }
+    numbers::refusal(number).map_or(UNKNOWN, |number| number.meaning)
 }
 
 /// What a stop's number means.
 pub fn stop_title(number: u64) -> &'static str {
-    match number {
-        31 => "a zero address",
-        32 => "a check that fails: no value of the pointer's type lies there",
-        33 => "an index not below the array's count",
-        34 => "no page is left",
-        35 => "a call with 16 frames",
-        36 => "a zero divisor, or a signed quotient over i32",
-        37 => "a shift by the width or more",
-        38 => "a byte beyond the form's end",
-        39 => "a full output",
-        _ => "no number of document 01",
-    }
+    numbers::stop(number).map_or(UNKNOWN, |number| number.meaning)
 }
 
 /// Refusal 20 of a saved state.
@@ -93,40 +74,139 @@ fn kind_title(kind: u8) -> &'static str {
     TERMS.get(usize::from(kind)).or(code).unwrap_or(&"unknown")
 }
 
-/// The refusal of a file in lines: number and place, what the number means, what stands at the
-/// place and what was asked.
-pub fn refusal(file: &[u8], answer: Answer) -> String {
-    let [_, number, place, _] = answer;
-    let mut text = format!("refused {number} {place}\n{}\n", refusal_title(number));
-    if let Some(there) = what_stands(file, number, place as usize) {
-        text += &format!("here:  {there}\n");
-    }
-    if let Err(refusal) = checker::check(file) {
-        if (u64::from(refusal.number), refusal.place as u64) == (number, place) {
-            text += &format!("asked: {}\n", refusal.asked);
-        }
-    }
-    text
+/// The refusal of a file: what stands at its place, where the source has it, and what was asked.
+pub struct Refused<'m> {
+    number: u64,
+    place: u64,
+    here: Option<String>,
+    source: Option<Source<'m>>,
+    asked: Option<&'static str>,
 }
 
-/// What stands at a refusal's place.
-fn what_stands(file: &[u8], number: u64, place: usize) -> Option<String> {
-    match number {
+impl<'m> Refused<'m> {
+    /// The map is one that fits the file.
+    pub fn new(file: &[u8], map: Option<&'m Map>, answer: Answer) -> Refused<'m> {
+        let [_, number, place, _] = answer;
+        let (here, source) = what_stands(file, map, number, place as usize);
+        let refusal = checker::check(file).err();
+        let same = |found: &crate::file::Refusal| {
+            (u64::from(found.number), found.place as u64) == (number, place)
+        };
+        let asked = refusal.filter(same).map(|refusal| refusal.asked);
+        Refused { number, place, here, source, asked }
+    }
+
+    /// In lines: number and place, what the number means, what stands at the place and what was asked.
+    pub fn text(&self) -> String {
+        let title = refusal_title(self.number);
+        let mut text = format!("refused {} {}\n{title}\n", self.number, self.place);
+        if let Some(source) = self.source {
+            text += &format!("at:    {source}\n");
+        }
+        if let Some(here) = &self.here {
+            text += &format!("here:  {here}\n");
+        }
+        if let Some(asked) = self.asked {
+            text += &format!("asked: {asked}\n");
+        }
+        text
+    }
+
+    pub fn json(&self) -> Json {
+        let mut members = vec![
+            ("answer", Json::text("refused")),
+            ("number", Json::Number(self.number)),
+            ("place", Json::Number(self.place)),
+            ("title", Json::text(refusal_title(self.number))),
+        ];
+        members.extend(self.here.as_ref().map(|here| ("here", Json::text(here))));
+        members.extend(self.asked.map(|asked| ("asked", Json::text(asked))));
+        members.extend(self.source.map(|source| ("source", source_json(&source))));
+        Json::Object(members)
+    }
+}
+
+/// A place in the source as JSON.
+pub fn source_json(source: &Source) -> Json {
+    Json::Object(vec![
+        ("file", Json::text(source.file)),
+        ("line", Json::Number(source.place.line as u64)),
+        ("column", Json::Number(source.place.column as u64)),
+    ])
+}
+
+/// The refusal of a file in lines.
+pub fn refusal(file: &[u8], map: Option<&Map>, answer: Answer) -> String {
+    Refused::new(file, map, answer).text()
+}
+
+/// What stands at a refusal's place, and where the source has it.
+fn what_stands<'m>(
+    file: &[u8],
+    map: Option<&'m Map>,
+    number: u64,
+    place: usize,
+) -> (Option<String>, Option<Source<'m>>) {
+    let here = match number {
         1 if file.len() > MODULE_MAX => Some(format!("the file has over {MODULE_MAX} bytes")),
         1 => Some(format!("the file has {} bytes", file.len())),
         2 | 3 => block_text(file, number, place),
-        4 => Some(match file_records(file).get(place) {
-            None => "the file ends".to_string(),
-            Some(record) => format!("record {place}: {}", record_text(record)),
-        }),
-        5 => term_or_struct(&decode(file).ok()?, place),
-        6 => {
-            let module = decode(file).ok()?;
-            let at = module.functions.iter().position(|function| function.place == place)?;
-            Some(format!("record {place}: {}", signature(&module, at)))
+        4 => {
+            let records = file_records(file);
+            let here = match records.get(place) {
+                None => "the file ends".to_string(),
+                Some(record) => format!("record {place}: {}", record_text(record)),
+            };
+            let source = map.and_then(|map| {
+                map.place_of(&records, place).map(|place| Source { file: &map.source, place })
+            });
+            return (Some(here), source);
         }
-        7 | 8 => instruction_at(&decode(file).ok()?, place),
+        5..=8 => {
+            let names = Names::of(map);
+            let module = decode(file).ok();
+            let found = module.and_then(|module| {
+                let listing = Listing::new(&module, names);
+                part_at(&listing, number, place)
+            });
+            return found.map_or((None, None), |(part, text)| {
+                (Some(format!("record {place}{text}")), part.source(&names))
+            });
+        }
         _ => None,
+    };
+    (here, None)
+}
+
+/// What a record of a module is of.
+enum Part {
+    Term,
+    Struct(usize),
+    Function(usize),
+    Instruction(usize, usize),
+}
+
+impl Part {
+    fn source<'m>(&self, names: &Names<'m>) -> Option<Source<'m>> {
+        match *self {
+            Part::Term => None,
+            Part::Struct(number) => names.struct_source(number),
+            Part::Function(number) => names.function_source(number),
+            Part::Instruction(function, at) => names.instruction_source(function, at),
+        }
+    }
+}
+
+/// The part of a module that a refusal is about, and its words behind the record's number.
+fn part_at(listing: &Listing, number: u64, place: usize) -> Option<(Part, String)> {
+    match number {
+        5 => term_or_struct(listing, place),
+        6 => {
+            let mut functions = listing.module.functions.iter();
+            let number = functions.position(|function| function.place == place)?;
+            Some((Part::Function(number), format!(": {}", signature(listing, number))))
+        }
+        _ => instruction_at(listing, place),
     }
 }
 
@@ -149,88 +229,102 @@ fn record_text(record: &Record) -> String {
     format!("kind {kind} ({}), a {a}, b {b}, c {c}, d {d}", kind_title(kind))
 }
 
-fn term_or_struct(module: &Module, place: usize) -> Option<String> {
+fn term_or_struct(listing: &Listing, place: usize) -> Option<(Part, String)> {
+    let module = listing.module;
     if place < module.terms.len() {
-        let text = Listing::new(module, true).type_text(place as u8, 0);
-        let of = match &module.terms[place] {
-            Term::Name { name, .. } => format!("; {}", struct_text(module, usize::from(*name))),
-            _ => String::new(),
+        let text = listing.type_text(place as u8, Scope::Table);
+        let (part, of) = match &module.terms[place] {
+            Term::Name { name, .. } => {
+                let number = usize::from(*name);
+                (Part::Struct(number), format!("; {}", struct_text(listing, number)))
+            }
+            _ => (Part::Term, String::new()),
         };
-        return Some(format!("record {place}: type {place}, {text}{of}"));
+        return Some((part, format!(": type {place}, {text}{of}")));
     }
     let number = module.names.iter().position(|name| name.place == place)?;
-    Some(format!("record {place}: {}", struct_text(module, number)))
+    Some((Part::Struct(number), format!(": {}", struct_text(listing, number))))
 }
 
-fn struct_text(module: &Module, number: usize) -> String {
-    let listing = Listing::new(module, true);
-    let name = &module.names[number];
-    let fields = name.fields.iter().map(|&field| listing.type_text(field, name.regions));
+fn struct_text(listing: &Listing, number: usize) -> String {
+    let structure = &listing.module.names[number];
+    let scope = Scope::Struct(number);
+    let fields = structure.fields.iter().map(|&field| listing.type_text(field, scope));
     let fields = fields.collect::<Vec<_>>().join(", ");
-    format!(
-        "struct s{number} with {} has the fields {fields}",
-        counted(name.regions as u64, "region")
-    )
+    let regions = counted(structure.regions as u64, "region");
+    let name = listing.names.structure(number as u8);
+    format!("struct {name} with {regions} has the fields {fields}")
 }
 
-/// Terms of a function with the names of what has them.
-fn typed(module: &Module, function: &Function, prefix: char, terms: &[u8]) -> String {
-    let listing = Listing::new(module, true);
-    let scope = function.region_types.len();
-    let texts = terms.iter().enumerate();
-    let texts = texts.map(|(i, &term)| format!("{prefix}{i}: {}", listing.type_text(term, scope)));
+/// Regions of a function with the types of their objects, of which the first so many.
+fn regions_text(listing: &Listing, number: usize, count: usize) -> String {
+    let scope = Scope::Function(number);
+    let terms = &listing.module.functions[number].region_types[..count];
+    let texts = (0..).zip(terms).map(|(region, &term)| {
+        format!("{}: {}", listing.region_text(region, scope), listing.type_text(term, scope))
+    });
     texts.collect::<Vec<_>>().join(", ")
 }
 
-fn result_text(module: &Module, function: &Function) -> String {
-    Listing::new(module, true).type_text(function.return_term, function.region_types.len())
+/// Registers of a function with their types, of which the first so many.
+fn registers_text(listing: &Listing, number: usize, count: usize) -> String {
+    let scope = Scope::Function(number);
+    let terms = &listing.module.functions[number].register_types[..count];
+    let texts = (0..).zip(terms).map(|(register, &term)| {
+        let name = listing.names.register(number, register);
+        format!("{name}: {}", listing.type_text(term, scope))
+    });
+    texts.collect::<Vec<_>>().join(", ")
+}
+
+fn result_text(listing: &Listing, number: usize) -> String {
+    listing.type_text(listing.module.functions[number].return_term, Scope::Function(number))
 }
 
 /// A function's regions, registers and result.
-fn signature(module: &Module, number: usize) -> String {
-    let function = &module.functions[number];
-    let mut text = format!("function f{number}");
+fn signature(listing: &Listing, number: usize) -> String {
+    let function = &listing.module.functions[number];
+    let mut text = format!("function {}", listing.names.function(number));
     if !function.region_types.is_empty() {
         let parameters = function.region_parameters;
-        let regions = typed(module, function, 'R', &function.region_types);
+        let regions = regions_text(listing, number, function.region_types.len());
         text += &format!(", regions {regions} ({parameters} of them parameters)");
     }
-    let registers = typed(module, function, 'r', &function.register_types);
+    let registers = registers_text(listing, number, function.register_types.len());
     text += &format!(", registers {registers} ({} of them parameters)", function.parameters);
-    text + &format!(", result {}", result_text(module, function))
+    text + &format!(", result {}", result_text(listing, number))
 }
 
 /// What a function asks of its callers, in its own regions.
-fn head(module: &Module, number: usize) -> String {
-    let function = &module.functions[number];
-    let regions = &function.region_types[..function.region_parameters];
-    let parameters = &function.register_types[..function.parameters];
-    let regions = match typed(module, function, 'R', regions) {
+fn head(listing: &Listing, number: usize) -> String {
+    let function = &listing.module.functions[number];
+    let regions = match regions_text(listing, number, function.region_parameters) {
         none if none.is_empty() => none,
         some => format!("[{some}]"),
     };
-    let parameters = typed(module, function, 'r', parameters);
-    format!("the callee is f{number}{regions}({parameters}) -> {}", result_text(module, function))
+    let parameters = registers_text(listing, number, function.parameters);
+    let (name, result) = (listing.names.function(number), result_text(listing, number));
+    format!("the callee is {name}{regions}({parameters}) -> {result}")
 }
 
-fn instruction_at(module: &Module, place: usize) -> Option<String> {
-    for (number, function) in module.functions.iter().enumerate() {
+fn instruction_at(listing: &Listing, place: usize) -> Option<(Part, String)> {
+    for (number, function) in listing.module.functions.iter().enumerate() {
         if let Some(at) = function.code.iter().position(|one| one.place == place) {
             let instruction = &function.code[at];
-            let text = Listing::new(module, true).instruction_text(function, instruction);
-            let types = operand_types(module, function, instruction);
-            let where_ = format!("record {place}, instruction {at} of f{number}");
-            let kind = kind_title(instruction.kind);
-            return Some(format!("{where_} ({kind}): {text}{types}"));
+            let text = listing.instruction_text(number, instruction);
+            let types = operand_types(listing, number, instruction);
+            let (name, kind) = (listing.names.function(number), kind_title(instruction.kind));
+            let text = format!(", instruction {at} of {name} ({kind}): {text}{types}");
+            return Some((Part::Instruction(number, at), text));
         }
     }
     None
 }
 
 /// The types of an instruction's registers, of the regions they point into, and of its callee.
-fn operand_types(module: &Module, function: &Function, instruction: &Instruction) -> String {
-    let listing = Listing::new(module, true);
-    let scope = function.region_types.len();
+fn operand_types(listing: &Listing, number: usize, instruction: &Instruction) -> String {
+    let module: &Module = listing.module;
+    let (function, scope) = (&module.functions[number], Scope::Function(number));
     let mut registers = instruction.registers();
     if instruction.kind == KIND_CALL {
         let callee = &module.functions[usize::from(instruction.b)];
@@ -242,43 +336,38 @@ fn operand_types(module: &Module, function: &Function, instruction: &Instruction
     let mut regions = Vec::new();
     for register in registers {
         let term = function.register_types[usize::from(register)];
-        parts.push(format!("r{register} is {}", listing.type_text(term, scope)));
+        let name = listing.names.register(number, register);
+        parts.push(format!("{name} is {}", listing.type_text(term, scope)));
         if let Term::Pointer { region, .. } = module.terms[usize::from(term)] {
             regions.push(region);
         }
     }
     regions.sort_unstable();
     regions.dedup();
+    let holds = |region: u8, term: u8| {
+        let (name, written) = (listing.region_text(region, scope), listing.type_text(term, scope));
+        format!("region {name} holds {written}")
+    };
     for region in regions {
         if let (22 | 27 | 28, Some(&term)) =
             (instruction.kind, function.region_types.get(usize::from(region)))
         {
-            parts.push(format!("region R{region} holds {}", listing.type_text(term, scope)));
+            parts.push(holds(region, term));
         }
     }
     if instruction.kind == KIND_CALL {
         let given = instruction.d.to_le_bytes();
         let callee = usize::from(instruction.b);
-        for region in &given[..module.functions[callee].region_parameters] {
-            let term = function.region_types[usize::from(*region)];
-            parts.push(format!("region R{region} holds {}", listing.type_text(term, scope)));
+        for &region in &given[..module.functions[callee].region_parameters] {
+            parts.push(holds(region, function.region_types[usize::from(region)]));
         }
-        parts.push(head(module, callee));
+        parts.push(head(listing, callee));
     }
     if instruction.kind == 34 {
-        parts.push(format!("the function's result is {}", result_text(module, function)));
+        parts.push(format!("the function's result is {}", result_text(listing, number)));
     }
     if parts.is_empty() {
         return String::new();
     }
     format!("; {}", parts.join("; "))
-}
-
-/// The instruction that the top frame of a state stands at.
-pub fn top_instruction(module: &Module, state: &State) -> Option<String> {
-    let frame = state.frames.last()?;
-    let function = module.functions.get(usize::from(frame.function))?;
-    let instruction = function.code.get(usize::from(frame.instruction))?;
-    let text = Listing::new(module, true).instruction_text(function, instruction);
-    Some(format!("f{} instruction {}: {text}", frame.function, frame.instruction))
 }

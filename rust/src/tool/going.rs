@@ -6,6 +6,7 @@ use super::files::{
     FORM_MAX, MODULE_MAX, OUTPUT_MAX, STANDARD, STATE_MAX,
 };
 use super::json::Json;
+use super::maps::usable_map;
 use super::saved::{self, Info, Known};
 use super::trace::traced;
 use super::words::{number, Choice};
@@ -15,6 +16,7 @@ use crate::compare::Interface;
 use crate::host::{self, Answer};
 use crate::module::{decode, Module};
 use crate::state::{State, OUTPUT_BYTES, STATE_BYTES};
+use crate::text;
 use std::path::Path;
 
 /// As document 01's program.
@@ -250,15 +252,19 @@ fn run(words: &Words, session: &mut Session) -> Outcome {
         return refused(&going, saved.unwrap_or(names.module), went.answer, session);
     }
     let module = decode(&going.file).map_err(|_| "the module does not decode".to_string())?;
-    let steps = match trace > 0 && went.interrupted.is_none() {
-        true => traced(&module, &going, before, went.answer[2], trace, session.machine()?),
+    let traces = trace > 0 && went.interrupted.is_none();
+    let named = traces || went.answer[0] == host::STOPPED;
+    let map = named.then(|| usable_map(names.module, &going.file, session)).flatten();
+    let listed = text::Names::of(map.as_ref());
+    let steps = match traces {
+        true => traced(&module, listed, &going, before, went.answer[2], trace, session.machine()?),
         false => String::new(),
     };
-    let answer = answer_text(&module, &going, went.answer);
+    let answer = answer_text(&module, listed, &going, went.answer);
     save(&names, &going, &went, opened_with, session)
         .map_err(|error| format!("{error}\nwhat could not be saved: {}", answer.trim_end()))?;
     let text = match words.flag("--json") {
-        true => format!("{}\n", answer_json(&module, &going, &went, &steps)),
+        true => format!("{}\n", answer_json(&going, &went, &answer, &steps)),
         false => steps + &answer + &output_text(&names, &going, &went, shown_from),
     };
     show(&names, &text, session)?;
@@ -425,29 +431,29 @@ fn interrupted_text(names: &Names, went: &Went) -> String {
     }
 }
 
-fn answer_text(module: &Module, going: &Going, answer: Answer) -> String {
+fn answer_text(module: &Module, names: text::Names, going: &Going, answer: Answer) -> String {
     let [kind, value, steps, _] = answer;
     match kind {
         host::ENDED => format!("ended {value} {steps}\n"),
         host::STOPPED => {
-            let view = State::from_bytes(&going.state).ok();
-            let at = view.and_then(|view| explain::top_instruction(module, &view));
-            let at = at.map_or(String::new(), |at| format!("at {at}\n"));
-            format!("stopped {value} {steps}\n{}\n{at}", explain::stop_title(value))
+            let view = State::from_bytes(&going.state);
+            let form_length = going.form.len();
+            let why = view.map(|view| explain::stop(module, names, &view, form_length, value));
+            format!("stopped {value} {steps}\n{}", why.unwrap_or_default())
         }
         _ => format!("running {steps}\n"),
     }
 }
 
 /// The answer with the output so far, whole or not.
-fn answer_json(module: &Module, going: &Going, went: &Went, steps: &str) -> Json {
+fn answer_json(going: &Going, went: &Went, answer: &str, steps: &str) -> Json {
     let [kind, value, count, _] = went.answer;
     let mut members = match kind {
         host::ENDED => vec![("answer", Json::text("ended")), ("value", Json::Number(value))],
         host::STOPPED => vec![
             ("answer", Json::text("stopped")),
             ("number", Json::Number(value)),
-            ("text", Json::text(answer_text(module, going, went.answer))),
+            ("text", Json::text(answer)),
         ],
         _ => vec![("answer", Json::text("running"))],
     };
@@ -487,7 +493,10 @@ fn output_text(names: &Names, going: &Going, went: &Went, from: usize) -> String
 pub fn refused(going: &Going, name: &str, answer: Answer, session: &mut Session) -> Outcome {
     let [_, number, place, _] = answer;
     let message = match number {
-        1..=8 => format!("{name}: {}", explain::refusal(&going.file, answer)),
+        1..=8 => {
+            let map = usable_map(name, &going.file, session);
+            format!("{name}: {}", explain::refusal(&going.file, map.as_ref(), answer))
+        }
         9 if going.form.len() > FORM_MAX => {
             format!("refused 9 0: the form has over {FORM_MAX} bytes, at most {FORM_MAX} are taken")
         }

@@ -52,6 +52,11 @@ fn empty_page(number: usize) -> String {
     text_at(x, y + LABEL - 4, "free", &label) + &rectangle((x, y + LABEL), (CELL, CELL), style, "")
 }
 
+/// Where the objects that are asked for begin.
+fn outlined<'v>(view: &'v View) -> impl Iterator<Item = usize> + 'v {
+    view.objects.iter().filter_map(|(_, object)| object.map(|object| object.start))
+}
+
 /// The objects of a page in a square, row by row.
 fn owned_page(view: &View, page: &Page) -> String {
     let (x, y) = corner(page.number);
@@ -60,9 +65,8 @@ fn owned_page(view: &View, page: &Page) -> String {
         colour(page.region, 95),
         colour(page.region, 40)
     );
-    let used = page.used.iter().filter(|used| **used).count();
     let mut text = text_at(x, y + LABEL - 4, "page", &page.number.to_string());
-    let count = format!("{used}/{}", page.used.len());
+    let count = format!("{}/{}", page.used_count(), page.used.len());
     text += &text_at(x + CELL, y + LABEL - 4, "count", &count);
     text += &rectangle((x, y + LABEL), (CELL, CELL), &style, "");
     let mut columns = 1;
@@ -77,7 +81,7 @@ fn owned_page(view: &View, page: &Page) -> String {
         let (left, right) = (edge(column, columns), edge(column + 1, columns));
         let (above, below) = (edge(row, rows), edge(row + 1, rows));
         let start = page.number * PAGE_BYTES + place * page.size;
-        let pointed = view.object.is_some_and(|object| object.start == start);
+        let pointed = outlined(view).any(|object| object == start);
         let fill = if *used { colour(page.region, 55) } else { "#ffffff".to_string() };
         let stroke = if pointed { "stroke=\"#000000\" stroke-width=\"3\"" } else { "" };
         let gap = usize::from(right - left > 3);
@@ -106,14 +110,14 @@ fn shortened(line: &str) -> String {
 fn frames(view: &View) -> (String, usize) {
     let mut text = String::new();
     let mut y = TOP + LABEL;
-    for index in (0..view.state.frames.len()).rev() {
-        let (at, maps) = view.frame_text(index);
-        text += &text_at(TEXT_LEFT, y, "frame", &shortened(&at));
+    for index in (0..view.heap.state.frames.len()).rev() {
+        text += &text_at(TEXT_LEFT, y, "frame", &shortened(&view.frame_text(index)));
         y += LINE;
-        for (live, map) in maps {
+        for (live, map) in view.region_texts(index) {
             let style = format!("fill=\"{}\"", colour(live, 55));
             text += &rectangle((TEXT_LEFT + 14, y - 10), (11, 11), &style, "");
-            let holds = view.region(live).map_or(String::new(), |one| format!(", {}", one.written));
+            let region = view.heap.region(live);
+            let holds = region.map_or(String::new(), |one| format!(", {}", one.written));
             let pages = view.pages.iter().filter(|page| page.region == live).count();
             let line = format!("{map}{holds}, pages {pages}");
             text += &text_at(TEXT_LEFT + 32, y, "map", &shortened(&line));
@@ -138,8 +142,10 @@ pub fn picture(view: &View) -> String {
     );
     text += &text_at(LEFT, 28, "title", &view.status());
     let mut legend = "filled objects are used, white ones free; a page has 256 bytes".to_string();
-    if let Some(object) = view.object {
-        legend += &format!("; outlined: the object at {}", object.start);
+    let starts: Vec<String> = outlined(view).map(|start| start.to_string()).collect();
+    if !starts.is_empty() {
+        let objects = if starts.len() == 1 { "object" } else { "objects" };
+        legend += &format!("; outlined: the {objects} at {}", starts.join(", "));
     }
     text += &text_at(LEFT, 48, "map", &legend);
     for number in 0..PAGES {

@@ -1,14 +1,21 @@
-//! The last steps of a run in the text form (`rcm run --trace`), found by running it again up to them.
+//! The last steps of a run in the text form (`rcm run --trace`) with the values that each reads and
+//! sets, found by running it again up to them.
 
 use super::going::Going;
+use super::standing::Standing;
 use crate::compare::Interface;
-use crate::module::{Module, MAX_REGISTERS};
-use crate::state::{self, State, OUTPUT_BYTES};
-use crate::text::Listing;
+use crate::module::{Module, KIND_CALL};
+use crate::state::{State, ENDED, FIRST_STOP, OUTPUT_BYTES};
+use crate::text::{Listing, Names};
+
+/// The least width of the columns for places and instructions.
+const PLACE: usize = 8;
+const INSTRUCTION: usize = 28;
 
 /// The last so many of a run's steps; `before` is the state that the run started from.
 pub fn traced(
     module: &Module,
+    names: Names,
     going: &Going,
     before: Vec<u8>,
     steps: u64,
@@ -25,43 +32,106 @@ pub fn traced(
     if from > 0 {
         again.go(machine, from);
     }
-    let mut text = String::new();
+    let listing = Listing::new(module, names);
+    let mut rows = Vec::new();
     for step in from..steps {
         let Ok(view) = State::from_bytes(&again.state) else { break };
         again.go(machine, 1);
         let after = State::from_bytes(&again.state).ok();
-        text += &step_text(module, step + 1, &view, after.as_ref());
+        rows.extend(after.and_then(|after| row(&listing, step + 1, &view, &after)));
+    }
+    table(&rows)
+}
+
+/// One step: its number, its place, its instruction, indented by the frame's depth, and the values.
+struct Row {
+    step: u64,
+    place: String,
+    instruction: String,
+    values: String,
+}
+
+fn table(rows: &[Row]) -> String {
+    let widest = |least: usize, text: fn(&Row) -> &str| {
+        rows.iter().map(|row| text(row).chars().count()).max().unwrap_or(0).max(least)
+    };
+    let place_width = widest(PLACE, |row| &row.place);
+    let width = widest(INSTRUCTION, |row| &row.instruction);
+    let mut text = String::new();
+    for Row { step, place, instruction, values } in rows {
+        let line = format!("{step:>9}  {place:place_width$} {instruction:width$}  {values}");
+        text += line.trim_end();
+        text += "\n";
     }
     text
 }
 
-/// One step: its number, function and instruction, and the register that it changes. A new object's
-/// register is shown also where it had that address before, and so is whether bytes were cleared.
-fn step_text(module: &Module, step: u64, before: &State, after: Option<&State>) -> String {
-    let Some(frame) = before.frames.last() else {
-        return String::new();
+fn row(listing: &Listing, step: u64, before: &State, after: &State) -> Option<Row> {
+    let at = Standing::top(listing, before)?;
+    let place = match at.source() {
+        Some(source) => source.short(),
+        None => format!("{}:{}", at.function_name(), at.frame.instruction),
     };
-    let function = &module.functions[usize::from(frame.function)];
-    let instruction = &function.code[usize::from(frame.instruction)];
-    let text = Listing::new(module, true).instruction_text(function, instruction);
-    let depth = before.frames.len();
-    let changed = after.and_then(|after| {
-        let now = after.frames.get(depth - 1)?;
-        let handed_out = instruction.kind == 27 && after.status == state::RUNNING;
-        let register = if handed_out {
-            usize::from(instruction.a)
-        } else {
-            (0..MAX_REGISTERS).find(|&i| now.registers[i] != frame.registers[i])?
-        };
-        // Without a grant only the object's own bytes can have changed.
-        let reused = handed_out && after.owners == before.owners;
-        let cleared = if reused && after.memory != before.memory { ", cleared" } else { "" };
-        Some(format!("r{register} = {}{cleared}", now.registers[register]))
+    let indent = before.frames.len() - 1;
+    let instruction = format!("{:indent$}{}", "", at.text());
+    let read: Vec<String> = reads(&at).into_iter().map(|register| at.register(register)).collect();
+    let read = read.join(", ");
+    let values = match outcome(&at, before, after) {
+        Some(outcome) if read.is_empty() => outcome,
+        Some(outcome) => format!("{read} -> {outcome}"),
+        None => read,
+    };
+    Some(Row { step, place, instruction, values })
+}
+
+/// The instruction sets its register a. A call's is set by the return.
+fn sets(at: &Standing) -> bool {
+    matches!(at.instruction.kind, 16..=25 | 27 | 29)
+}
+
+/// The registers that an instruction reads, each once, in the order of its operands.
+fn reads(at: &Standing) -> Vec<u8> {
+    let mut registers = match at.instruction.kind {
+        KIND_CALL => {
+            let callee = &at.listing.module.functions[usize::from(at.instruction.b)];
+            at.instruction.arguments[..callee.parameters].to_vec()
+        }
+        _ => at.instruction.registers().split_off(usize::from(sets(at))),
+    };
+    let mut met = Vec::new();
+    registers.retain(|register| {
+        let new = !met.contains(register);
+        met.push(*register);
+        new
     });
-    let place = format!("f{}:{}", frame.function, frame.instruction);
-    let line = format!("{step:>9}  {place:8} {:indent$}{text}", "", indent = depth - 1);
-    match changed {
-        Some(changed) => format!("{line:48}  {changed}\n"),
-        None => format!("{line}\n"),
+    registers
+}
+
+/// What a step comes to: the register that it sets, whether a branch is taken, where a returned
+/// value goes. None where it only reads, or stops.
+fn outcome(at: &Standing, before: &State, after: &State) -> Option<String> {
+    if after.status >= FIRST_STOP {
+        return None;
+    }
+    let a = at.instruction.a;
+    match at.instruction.kind {
+        32 if at.value(a) == 0 => Some("not taken".to_string()),
+        32 => Some("taken".to_string()),
+        34 if after.status == ENDED => Some("ended".to_string()),
+        34 => {
+            let caller = before.frames.iter().rev().nth(1)?;
+            let call = Standing::of(at.listing, caller)?;
+            let set = call.register_as(call.instruction.a, at.value(a));
+            Some(format!("{set} in {}", call.function_name()))
+        }
+        _ if !sets(at) => None,
+        kind => {
+            let now = after.frames.get(before.frames.len() - 1)?;
+            let set = at.register_as(a, now.registers[usize::from(a)]);
+            // Without a grant only the new object's own bytes can have changed.
+            let reused = kind == 27 && after.owners == before.owners;
+            let cleared = if reused && after.memory != before.memory { ", cleared" } else { "" };
+            Some(set + cleared)
+        }
     }
 }

@@ -1,13 +1,17 @@
 //! `rcm check`: the verdict on a module, and the rule of a refusal in plain words.
 
+use super::explain::Refused;
 use super::files::{read, MODULE_MAX};
-use super::{counted, explain, print, Command, Outcome, Session, Words, DONE, REFUSED};
-use crate::host;
+use super::json::Json;
+use super::maps::usable_map;
+use super::words::Choice;
+use super::{counted, print, Command, Outcome, Session, Words, DONE, REFUSED};
+use crate::host::{self, Answer};
 
 pub const CHECK: Command = Command {
     name: "check",
     takes: "MODULE",
-    options: &[],
+    options: &[Choice::flag("--json", "prints the verdict as JSON")],
     does: "the verdict, a refusal in plain words",
     run: check,
 };
@@ -17,18 +21,33 @@ fn check(words: &Words, session: &mut Session) -> Outcome {
     let file = read(name, MODULE_MAX)?;
     let answer = session.machine()?.check(&file);
     if answer[0] == host::REFUSED {
-        print(session.out, &explain::refusal(&file, answer))?;
+        let map = usable_map(name, &file, session);
+        let refused = Refused::new(&file, map.as_ref(), answer);
+        let text = match words.flag("--json") {
+            true => format!("{}\n", refused.json()),
+            false => refused.text(),
+        };
+        print(session.out, &text)?;
         return Ok(REFUSED);
     }
+    print(session.out, &accepted(answer, words.flag("--json")))?;
+    Ok(DONE)
+}
+
+fn accepted(answer: Answer, json: bool) -> String {
     let [_, terms, names, rest] = answer;
     let (functions, instructions) = (rest >> 16, rest & 0xffff);
-    let words = [
-        counted(terms, "type"),
-        counted(names, "struct"),
-        counted(functions, "function"),
-        counted(instructions, "instruction"),
+    let counts = [
+        (terms, "type", "types"),
+        (names, "struct", "structs"),
+        (functions, "function", "functions"),
+        (instructions, "instruction", "instructions"),
     ];
-    let numbers = format!("accepted {terms} {names} {functions} {instructions}");
-    print(session.out, &format!("{numbers}\n{}\n", words.join(", ")))?;
-    Ok(DONE)
+    if json {
+        let counts = counts.map(|(count, _, name)| (name, Json::Number(count)));
+        let answer = ("answer", Json::text("accepted"));
+        return format!("{}\n", Json::Object([answer].into_iter().chain(counts).collect()));
+    }
+    let words = counts.map(|(count, name, _)| counted(count, name)).join(", ");
+    format!("accepted {terms} {names} {functions} {instructions}\n{words}\n")
 }
