@@ -426,16 +426,6 @@ fn the_map_beside_the_module() {
     assert_eq!(files(&folder), ["module", "module.map", "other.map", "plain", "text"]);
 }
 
-/// The map that docs/ASSEMBLY.md shows.
-#[test]
-fn the_map_of_the_page() {
-    let read = |name: &str| std::fs::read_to_string(repository().join(name)).expect("a text");
-    let source = "examples/answer.asm";
-    let made = assemble_all(&read(source), source).unwrap_or_else(|errors| panic!("{errors:?}"));
-    let shown: String = made.map.text().lines().map(|line| format!("    {line}\n")).collect();
-    assert!(read("docs/ASSEMBLY.md").contains(&shown), "{shown}");
-}
-
 /// Functions that raw records make have numbers for names.
 #[test]
 fn maps_of_raw_functions() {
