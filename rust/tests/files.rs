@@ -400,6 +400,10 @@ mod program {
         assert!(fed(&folder, "check -", &module).stdout.starts_with(b"accepted "));
         let listed = fed(&folder, "run module - --output -", &form);
         assert_eq!((&listed.stdout[..], &listed.stderr[..]), (super::LIST, &b"ended 6 335\n"[..]));
+        // Of a run that goes on the new bytes alone: those before are in nobody's hands.
+        let part = "run module form --budget 310 --state state --output -";
+        assert_eq!(fed(&folder, part, b"").stdout, b"bed");
+        assert_eq!(fed(&folder, part, b"").stdout, b"acf");
         let ran = fed(&folder, "run - form --budget=0x14F", &module);
         assert!(ran.stdout.starts_with(b"ended 6 335\n"));
     }

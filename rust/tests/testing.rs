@@ -175,7 +175,7 @@ fn texts_that_do_not_assemble_fail() {
     let (status, out) =
         tested(&folder, "#: ended 1\n#: endet 2\nfn main() -> i32 {\n    r = 1\n}\n");
     assert_eq!(status, BAD_INPUT);
-    assert!(out.starts_with("t.asm:4:5: expected a register: `r` is none"), "{out}");
+    assert!(out.starts_with("t.asm:4:5: error: expected a register: `r` is none"), "{out}");
     assert!(out.contains("\nt.asm:2: expected form, arguments,"), "{out}");
     assert!(out.ends_with("\n1 file, 0 expectations, 0 differ, 2 errors\n"), "{out}");
     std::fs::write(folder.join("t.asm"), [0xff]).expect("a file");

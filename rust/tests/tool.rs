@@ -292,6 +292,9 @@ fn answers_as_json() {
     example(&folder, "stops/33-index.asm");
     let stopped = "run @module @form --json";
     assert_eq!(found(stopped, "['answer'], v['number'], v['steps']"), "('stopped', 33, 3)");
+    assert_eq!(found(stopped, "['meaning']"), "an index not below the array's count");
+    assert!(found(stopped, "['at']").ends_with("r2 = 6, the array has 6"));
+    assert!(found(stopped, "['advice']").starts_with("Tell the laboratory"));
 }
 
 /// The program itself as it is built without the library.

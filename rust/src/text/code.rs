@@ -525,6 +525,7 @@ impl<'a, 't> Coder<'a, 't> {
             (arguments.len(), callee.parameters, "arguments"),
         ] {
             if given != wanted {
+                let what = if wanted == 1 { what.trim_end_matches('s') } else { what };
                 let message = format!("expected {wanted} {what} for `{}`", function.text);
                 let message = format!("{message}, found {given}");
                 return Err(Error::new(function.span, message).into());

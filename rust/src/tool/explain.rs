@@ -11,8 +11,6 @@ use crate::module::{decode, Instruction, Module, Term, KIND_CALL};
 use crate::state::STATE_BYTES;
 use crate::text::{file_records, Listing, Map, Names, Scope, Source};
 
-pub use super::stops::stop;
-
 /// What a number means that document 01 does not have.
 const UNKNOWN: &str = "no number of document 01";
 

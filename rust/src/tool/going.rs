@@ -8,6 +8,7 @@ use super::files::{
 use super::json::Json;
 use super::maps::usable_map;
 use super::saved::{self, Info, Known};
+use super::stops::Stopped;
 use super::trace::traced;
 use super::words::{number, Choice};
 use super::{counted, explain, print, Command, Outcome, Session, Words};
@@ -199,6 +200,11 @@ impl<'w> Names<'w> {
         Ok(names)
     }
 
+    /// The output where it is a file, and no stream.
+    fn output_file(&self) -> Option<&'w str> {
+        self.output.filter(|name| *name != STANDARD)
+    }
+
     /// What will be written beside state and output is not somebody else's file.
     fn own(&self) -> Result<(), String> {
         info_of(self)?;
@@ -246,7 +252,7 @@ fn run(words: &Words, session: &mut Session) -> Outcome {
     };
     let before = going.state.clone();
     // Bytes that an earlier run has written are not here without its output.
-    let shown_from = going.count();
+    let known_from = if names.output_file().is_some() { 0 } else { going.count() };
     let went = going.go_in_slices(budget, session)?;
     if went.answer[0] == host::REFUSED {
         return refused(&going, saved.unwrap_or(names.module), went.answer, session);
@@ -260,12 +266,14 @@ fn run(words: &Words, session: &mut Session) -> Outcome {
         true => traced(&module, listed, &going, before, went.answer[2], trace, session.machine()?),
         false => String::new(),
     };
-    let answer = answer_text(&module, listed, &going, went.answer);
-    save(&names, &going, &went, opened_with, session)
+    let stopped = stopped(&module, listed, &going, went.answer);
+    let answer = answer_text(stopped.as_ref(), went.answer);
+    let output = &going.written()[known_from..];
+    save(&names, &going, output, &went, opened_with, session)
         .map_err(|error| format!("{error}\nwhat could not be saved: {}", answer.trim_end()))?;
     let text = match words.flag("--json") {
-        true => format!("{}\n", answer_json(&going, &went, &answer, &steps)),
-        false => steps + &answer + &output_text(&names, &going, &went, shown_from),
+        true => format!("{}\n", answer_json(stopped.as_ref(), output, &went, &steps)),
+        false => steps + &answer + &output_text(&names, output, &went),
     };
     show(&names, &text, session)?;
     if went.interrupted.is_some() {
@@ -358,7 +366,7 @@ fn take_output(
     going: &mut Going,
 ) -> Result<(), String> {
     let known = info.and_then(|info| info.output.as_ref());
-    let Some(output) = names.output.filter(|output| *output != STANDARD) else {
+    let Some(output) = names.output_file() else {
         return match known {
             Some((_, file)) => Err(format!("{name} was saved with --output {}", file.name)),
             None => Ok(()),
@@ -385,21 +393,20 @@ fn take_output(
 fn save(
     names: &Names,
     going: &Going,
+    output: &[u8],
     went: &Went,
     arguments: String,
     session: &mut Session,
 ) -> Result<(), String> {
-    let written = going.written();
-    let output = names.output.filter(|name| *name != STANDARD);
     let info = Info {
         module: Known::new(names.module, &going.file),
         form: Known::new(names.form, &going.form),
         arguments,
-        output: output.map(|name| (written.len(), Known::new(name, written))),
+        output: names.output_file().map(|name| (output.len(), Known::new(name, output))),
     };
     let (info, mark) = (info.text(), mark_text(went));
     let mut files = Vec::new();
-    files.extend(names.output.map(|name| Output::private(name, written)));
+    files.extend(names.output.map(|name| Output::private(name, output)));
     files.extend(names.state.map(|name| Output::private(name, &going.state)));
     files.extend(names.info.iter().map(|name| Output::private(name, info.as_bytes())));
     if went.partial() {
@@ -431,61 +438,60 @@ fn interrupted_text(names: &Names, went: &Went) -> String {
     }
 }
 
-fn answer_text(module: &Module, names: text::Names, going: &Going, answer: Answer) -> String {
+/// Why a module has stopped, if it has.
+fn stopped(module: &Module, names: text::Names, going: &Going, answer: Answer) -> Option<Stopped> {
+    let [host::STOPPED, number, ..] = answer else { return None };
+    let state = State::from_bytes(&going.state).ok()?;
+    Some(Stopped::new(module, names, &state, going.form.len(), number))
+}
+
+fn answer_text(stopped: Option<&Stopped>, answer: Answer) -> String {
     let [kind, value, steps, _] = answer;
     match kind {
         host::ENDED => format!("ended {value} {steps}\n"),
         host::STOPPED => {
-            let view = State::from_bytes(&going.state);
-            let form_length = going.form.len();
-            let why = view.map(|view| explain::stop(module, names, &view, form_length, value));
+            let why = stopped.map(Stopped::text);
             format!("stopped {value} {steps}\n{}", why.unwrap_or_default())
         }
         _ => format!("running {steps}\n"),
     }
 }
 
-/// The answer with the output so far, whole or not.
-fn answer_json(going: &Going, went: &Went, answer: &str, steps: &str) -> Json {
+/// The answer with the output as far as it is known, whole or not.
+fn answer_json(stopped: Option<&Stopped>, output: &[u8], went: &Went, steps: &str) -> Json {
     let [kind, value, count, _] = went.answer;
     let mut members = match kind {
         host::ENDED => vec![("answer", Json::text("ended")), ("value", Json::Number(value))],
-        host::STOPPED => vec![
-            ("answer", Json::text("stopped")),
-            ("number", Json::Number(value)),
-            ("text", Json::text(answer)),
-        ],
+        host::STOPPED => vec![("answer", Json::text("stopped")), ("number", Json::Number(value))],
         _ => vec![("answer", Json::text("running"))],
     };
+    members.extend(stopped.map(Stopped::members).unwrap_or_default());
     members.push(("steps", Json::Number(count)));
     members.push(("interrupted", Json::Bool(went.interrupted.is_some())));
     members.push(("partial", Json::Bool(went.partial())));
-    members.push(("output", Json::bytes(going.written())));
+    members.push(("output", Json::bytes(output)));
     if !steps.is_empty() {
         members.push(("trace", Json::list(steps.lines(), Json::text)));
     }
     Json::Object(members)
 }
 
-/// The bytes of the output from a place on where they are not written to a file, and whether they
-/// are whole.
-fn output_text(names: &Names, going: &Going, went: &Went, from: usize) -> String {
+/// The bytes of the output where they are not written to a file, and whether they are whole.
+fn output_text(names: &Names, bytes: &[u8], went: &Went) -> String {
     let partial = if went.partial() { "partial output" } else { "output" };
+    let count = counted(bytes.len() as u64, "byte");
     if let Some(name) = names.output {
-        let count = counted(going.written().len() as u64, "byte");
         let name = if name == STANDARD { "standard output" } else { name };
         return match went.partial() {
             true => format!("{partial}, {count}: in {name}\n"),
             false => String::new(),
         };
     }
-    let bytes = &going.written()[from..];
     if bytes.is_empty() {
         return String::new();
     }
     let hex: Vec<String> = bytes.iter().take(SHOWN).map(|byte| format!("{byte:02x}")).collect();
     let more = if bytes.len() > SHOWN { " .." } else { "" };
-    let count = counted(bytes.len() as u64, "byte");
     format!("{partial}, {count}: {}{more}\n", hex.join(" "))
 }
 

@@ -2,6 +2,7 @@
 
 use super::explain::stop_title;
 use super::heap::Heap;
+use super::json::Json;
 use super::standing::Standing;
 use super::{counted, numbers};
 use crate::module::{Module, Term};
@@ -11,19 +12,42 @@ use crate::text::{Listing, Names, Scope};
 /// The operation of kind 18 whose operands have a sign: the quotient to the nearest.
 const NEAREST: u32 = 10;
 
-/// What a stop's number means, where it stopped and why, and what to do next, a line each.
-pub fn stop(
-    module: &Module,
-    names: Names,
-    state: &State,
-    form_length: usize,
-    number: u64,
-) -> String {
-    let at = stopped_at(module, names, state, form_length, number);
-    let at = at.map_or(String::new(), |at| format!("at {at}\n"));
-    let next = numbers::stop(number);
-    let next = next.map_or(String::new(), |one| format!("what to do next: {}\n", one.advice));
-    format!("{}\n{at}{next}", stop_title(number))
+/// A stop: what its number means, where and why, and what to do next.
+pub struct Stopped {
+    meaning: &'static str,
+    at: Option<String>,
+    advice: Option<&'static str>,
+}
+
+impl Stopped {
+    pub fn new(
+        module: &Module,
+        names: Names,
+        state: &State,
+        form_length: usize,
+        number: u64,
+    ) -> Stopped {
+        Stopped {
+            meaning: stop_title(number),
+            at: stopped_at(module, names, state, form_length, number),
+            advice: numbers::stop(number).map(|one| one.advice),
+        }
+    }
+
+    /// A line for each.
+    pub fn text(&self) -> String {
+        let mut text = format!("{}\n", self.meaning);
+        text.extend(self.at.as_ref().map(|at| format!("at {at}\n")));
+        text.extend(self.advice.map(|advice| format!("what to do next: {advice}\n")));
+        text
+    }
+
+    pub fn members(&self) -> Vec<(&'static str, Json)> {
+        let mut members = vec![("meaning", Json::text(self.meaning))];
+        members.extend(self.at.as_ref().map(|at| ("at", Json::text(at))));
+        members.extend(self.advice.map(|advice| ("advice", Json::text(advice))));
+        members
+    }
 }
 
 /// The place of a stop, its instruction and the values that explain it.

@@ -8,7 +8,7 @@ use super::{counted, print, Command, Outcome, Session, Words, BAD_INPUT, DONE};
 use crate::compare::Interface;
 use crate::host::{self, Answer, FUNCTIONS_UNIT};
 use crate::state::{OUTPUT_BYTES, STATE_BYTES};
-use crate::text::assemble;
+use crate::text::{assemble_unchecked, report};
 use std::path::{Path, PathBuf};
 
 pub const TEST: Command = Command {
@@ -108,17 +108,17 @@ impl Report {
             Ok(text) => text,
             Err(message) => return self.error(message),
         };
-        let assembled = assemble(&text).map_err(|error| {
-            let place = error.place;
-            self.error(format!("{name}:{}:{}: {}", place.line, place.column, error.message));
+        let assembled = assemble_unchecked(&text, name).map_err(|errors| {
+            self.errors += errors.len();
+            self.lines.push(report(name, &text, "error", &errors).trim_end().to_string());
         });
         let script = script::read(&text).map_err(|wrong| {
             for (line, message) in wrong {
                 self.error(format!("{name}:{line}: {message}"));
             }
         });
-        if let (Ok(file), Ok(script)) = (assembled, script) {
-            self.module(name, &file, &script, machine);
+        if let (Ok(assembled), Ok(script)) = (assembled, script) {
+            self.module(name, &assembled.file, &script, machine);
         }
     }
 
