@@ -296,7 +296,7 @@ ten.asm:21:10: error: expected a label of this function: `finish` is none
 ten.asm:23:19: error: a constant fits its register, an integer
    23 |     byte = byte + 300
       |                   ^^^ 300 does not fit i8
-ten.asm:24:11: error: expected 1 regions for `total`, found 0
+ten.asm:24:11: error: expected 1 region for `total`, found 0
    24 |     sum = total(p)
       |           ^^^^^
 ten.asm:29:14: error: expected a type: `int` is no struct or type so far
