@@ -293,7 +293,7 @@ fn answers_as_json() {
     let stopped = "run @module @form --json";
     assert_eq!(found(stopped, "['answer'], v['number'], v['steps']"), "('stopped', 33, 3)");
     assert_eq!(found(stopped, "['meaning']"), "an index not below the array's count");
-    assert!(found(stopped, "['at']").ends_with("r2 = 6, the array has 6"));
+    assert!(found(stopped, "['at']").ends_with("r2 = 10, the array has 10"));
     assert!(found(stopped, "['advice']").starts_with("Tell the laboratory"));
 }
 
