@@ -220,6 +220,8 @@ fn a_map_is_a_text_for_people() {
         ("build:2", "build"),
         ("module ", "module 0"),
         ("\nend", "\nend\nend"),
+        // What a terminal would take for an order.
+        ("source ", "source \u{1b}[2J"),
     ] {
         assert!(!used(&text.replacen(from, to, 1)), "{from} {to}");
     }

@@ -53,8 +53,7 @@ pub struct FunctionNames {
 impl Map {
     /// The map as a text.
     pub fn text(&self) -> String {
-        // A name with a line break in it would begin a line of the map.
-        let source = self.source.replace(char::is_control, " ");
+        let source = printable(&self.source);
         let mut text = format!("{MAP_HEAD}\nsource {source}\nmodule {}\n", hex(&self.hash));
         for one in &self.structs {
             text += &format!("struct {} {}\n", one.name, place_text(&one.place));
@@ -97,7 +96,8 @@ impl Map {
             });
         }
         reader.exactly(END)?;
-        // What words alone do not show: further lines, other spaces, numbers written otherwise.
+        // What words alone do not show: further lines, other spaces, numbers written otherwise, a
+        // source whose name is not printable.
         if map.text() != text {
             return Err("expected a map as asm writes it".to_string());
         }
@@ -160,6 +160,12 @@ impl Map {
         }
         spans
     }
+}
+
+/// A file's name as it can be shown: what a terminal would take for an order, or a reader for a
+/// second line, is a question mark.
+pub fn printable(name: &str) -> String {
+    name.chars().map(|letter| if letter.is_control() { '?' } else { letter }).collect()
 }
 
 /// A line of words behind a first one.

@@ -18,5 +18,5 @@ pub use assembler::{assemble, assemble_all, assemble_unchecked, Assembled};
 pub use disassembler::{disassemble, file_records, Listing};
 pub use error::{report, Error};
 pub use lexer::Place;
-pub use map::{FunctionNames, Map, StructNames, MAP_HEAD};
+pub use map::{printable, FunctionNames, Map, StructNames, MAP_HEAD};
 pub use names::{Names, Scope, Source};

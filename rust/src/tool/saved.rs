@@ -3,6 +3,7 @@
 //! module, form or output would be safe and wrong.
 
 use crate::digest::{hex, sha256};
+use crate::text::printable;
 
 /// The first line of such a file.
 const FIRST: &str = "rcm state 1";
@@ -22,9 +23,7 @@ pub struct Known {
 
 impl Known {
     pub fn new(name: &str, bytes: &[u8]) -> Known {
-        // A name with a line's end in it must not look like two lines.
-        let name = name.chars().map(|letter| if letter.is_control() { '?' } else { letter });
-        Known { digest: hex(&sha256(bytes)), name: name.collect() }
+        Known { digest: hex(&sha256(bytes)), name: printable(name) }
     }
 }
 
@@ -73,7 +72,7 @@ impl Info {
 fn known(text: &str) -> Option<Known> {
     let (digest, name) = text.split_once(' ')?;
     let fits = digest.len() == 64 && digest.bytes().all(|byte| byte.is_ascii_hexdigit());
-    fits.then(|| Known { digest: digest.to_string(), name: name.to_string() })
+    fits.then(|| Known { digest: digest.to_string(), name: printable(name) })
 }
 
 #[cfg(test)]
