@@ -130,7 +130,7 @@ fn no_output_is_an_input_or_another_output() {
     fs::hard_link(folder.join("form"), folder.join("name")).expect("a second name");
     good(&folder, "run @module @form --budget 9 --state @state --output @list", RUNNING);
     fs::write(folder.join("mine.info"), b"my notes").expect("a file");
-    fs::write(folder.join("mine.partial"), b"my notes").expect("a file");
+    fs::write(folder.join("mine.partial"), b"stopped the drug on Monday").expect("a file");
     for (line, message) in [
         ("run @module @form --output @form", "is the form: it would be overwritten"),
         ("run @module @form --output @link", "is the form: it would be overwritten"),
@@ -145,8 +145,21 @@ fn no_output_is_an_input_or_another_output() {
         ("run @module @form --state @list.partial --output @list", "are one file"),
         ("run @module @form --output @absent/list", "No such file or directory"),
         ("run @module @form --output @form/list", "expected a folder before the file's name"),
-        ("run @module @form --state .", "expected a file, found a folder"),
+        ("run @module @form --state .", "--state wants a file"),
+        ("asm @text --no-map -o @absent-folder/", "expected a file's name, found a folder's"),
+        ("run @module @form --output=", "expected a file's name, found an empty word"),
         ("run @module @form --state @mine", "mine.info: expected what a saved state belongs to"),
+        ("run @module @form --output @module.map", "is the module's map"),
+        ("run @module @form --output @state", "is a saved state: it would be overwritten"),
+        ("asm @text -o @state", "is a saved state: it would be overwritten"),
+        ("pages @module @state --svg @state.info", "is the state's info"),
+        ("pages @module @state --svg @module.map", "is the module's map"),
+        // A run that is saved keeps its output, though the state is mistyped or left out.
+        (
+            "run @module @form --state @stat --output @list",
+            "is the output of a run that is saved in",
+        ),
+        ("run @module @form --output @list", "is the output of a run that is saved in"),
         ("run @module @form --output @mine", "mine.partial: expected the mark of a partial output"),
         ("run @module @form --state -", "--state wants a file"),
         ("run - -", "standard input can be read once"),
@@ -207,7 +220,6 @@ fn reads_are_bounded() {
         ("dis /dev/zero --raw", BAD_INPUT, "more than 32768 bytes"),
         ("run /dev/zero @form", REFUSED, "refused 1 0"),
         ("run @module /dev/zero", REFUSED, "refused 9 0: the form has over 4096 bytes"),
-        ("run @module @form --state /dev/zero", REFUSED, "refused 20 0: it has over 24576"),
         ("pages @module @huge", REFUSED, "refused 20 0: it has over 24576 bytes"),
         ("asm @huge -o @new", BAD_INPUT, "expected a text of at most"),
     ] {
@@ -228,7 +240,9 @@ fn a_partial_list_is_marked() {
         ran.out,
         format!("running 310\npartial output, 3 bytes: in {}\n", folder.join("list").display())
     );
-    assert_eq!(mark().expect("the mark"), "running: the module has not ended\n");
+    let state = folder.join("state");
+    let running = format!("running: the module has not ended\nstate {}\n", state.display());
+    assert_eq!(mark().expect("the mark"), format!("rcm partial 1\n{running}"));
     let ran = good(&folder, line, DONE);
     assert_eq!(ran.out, "ended 6 25\n");
     assert!(mark().is_err());
@@ -238,7 +252,7 @@ fn a_partial_list_is_marked() {
     good(&folder, &format!("asm {stop} -o @full"), DONE);
     let ran = good(&folder, "run @full @form --output @list", STOPPED);
     assert!(ran.out.contains("\npartial output, 4096 bytes: in "), "{}", ran.out);
-    assert_eq!(mark().expect("the mark"), "stopped 39: a full output\n");
+    assert_eq!(mark().expect("the mark"), "rcm partial 1\nstopped 39: a full output\n");
 }
 
 /// The same words go on; other ones are compared with what stands beside the state.
@@ -285,6 +299,78 @@ fn states_know_what_they_belong_to() {
     fs::remove_file(folder.join("state.info")).expect("a file");
     let ran = good(&folder, line, RUNNING);
     assert!(ran.error.contains("is a saved state: --arguments is not looked at"), "{}", ran.error);
+    // Then nobody knows the arguments, and they are taken as they are.
+    good(&folder, line, RUNNING);
+}
+
+/// Of two runs of one module the state of one does not go on with the form and output of the other.
+#[test]
+fn a_state_is_that_of_its_info() {
+    let folder = folder("exchanged");
+    let upper = fs::read(folder.join("form")).expect("a form").to_ascii_uppercase();
+    fs::write(folder.join("upper"), upper).expect("a form");
+    good(&folder, "run @module @form --budget 290 --state @one --output @first", RUNNING);
+    good(&folder, "run @module @upper --budget 300 --state @two --output @second", RUNNING);
+    let two = fs::read(folder.join("two")).expect("a state");
+    fs::copy(folder.join("one"), folder.join("two")).expect("a state");
+    let line = "run @module @upper --state @two --output @second";
+    bad(&folder, line, "is not the state that ");
+    fs::write(folder.join("two"), two).expect("a state");
+    good(&folder, line, DONE);
+    assert_eq!(fs::read(folder.join("second")).expect("a list"), b"BEDACF");
+    let ran = good(&folder, line, REFUSED);
+    assert!(ran.error.ends_with("refused 22 0: this state has ended already: its list is whole\n"));
+}
+
+/// What stands beside a file is found under each of its names.
+#[test]
+fn beside_a_link_is_beside_its_file() {
+    let folder = folder("beside");
+    fs::create_dir(folder.join("real")).expect("a folder");
+    for name in ["state", "list"] {
+        symlink(folder.join("real").join(name), folder.join(name)).expect("a link");
+    }
+    let line = "run @module @form --budget 300 --state @state --output @list";
+    good(&folder, line, RUNNING);
+    let names: Vec<_> = contents(&folder.join("real")).into_iter().map(|(path, _)| path).collect();
+    let names: Vec<_> = names.iter().filter_map(|path| path.file_name()).collect();
+    assert_eq!(names, ["list", "list.partial", "state", "state.info"]);
+    fs::write(folder.join("other"), [1, 90, b'a']).expect("a form");
+    let other = "run @module @other --budget 300 --state @real/state --output @real/list";
+    bad(&folder, other, "is a state of another form");
+    good(&folder, &line.replace("@", "@./"), DONE);
+    assert!(!folder.join("real/list.partial").exists());
+}
+
+/// Lists of who may read a file are not in its mode.
+#[test]
+fn access_lists_are_kept() {
+    let folder = folder("acl");
+    let list = folder.join("list");
+    fs::write(&list, b"old").expect("a file");
+    let set = Command::new("setfacl").args(["-m", "u:12345:rw,g::---"]).arg(&list).output();
+    if !set.is_ok_and(|set| set.status.success()) {
+        eprintln!("no access list can be set here");
+        return;
+    }
+    let shown = || Command::new("getfacl").args(["-c", "-p"]).arg(&list).output().expect("getfacl");
+    let before = shown().stdout;
+    good(&folder, "run @module @form --output @list", DONE);
+    assert_eq!(fs::read(&list).expect("the list"), LIST);
+    assert!(shown().stdout == before);
+}
+
+/// A pipe or a device has no bytes to go on from, and nothing beside it.
+#[test]
+fn runs_go_on_with_devices() {
+    let folder = folder("on");
+    symlink("/dev/null", folder.join("null")).expect("a link");
+    let line = "run @module @form --budget 300 --state @state --output @null";
+    good(&folder, line, RUNNING);
+    good(&folder, line, DONE);
+    let pipe = folder.join("pipe.info");
+    assert!(Command::new("mkfifo").arg(&pipe).status().is_ok_and(|status| status.success()));
+    bad(&folder, "run @module @form --state @pipe", "pipe.info: expected a regular file");
 }
 
 #[test]
@@ -370,9 +456,50 @@ mod program {
         // Exactly the steps that were counted have been done.
         good(&folder, "run @module @form --budget 6 --state @state --output @list", RUNNING);
         assert_eq!(reached(&folder), before + 3);
-        let (code, _, error) = signalled(&folder, "run module form --budget 1000000000000", "-INT");
-        assert_eq!(code, Some(130));
+        let (code, _, error) = signalled(&folder, "run module form --budget 1000000000000", "-HUP");
+        assert_eq!(code, Some(129));
         assert!(error.contains("without --state they are lost"), "{error}");
+    }
+
+    /// Of two runs from one state only one is saved.
+    #[test]
+    fn a_state_that_has_changed_is_not_written_over() {
+        let folder = folder("twice");
+        fs::write(folder.join("text"), ENDLESS).expect("a text");
+        good(&folder, "asm @text -o @module", DONE);
+        good(&folder, "run @module @form --budget 10 --state @state", RUNNING);
+        let line = "run module form --budget 1000000000000 --state state";
+        let child = spawn(&folder, line);
+        std::thread::sleep(Duration::from_millis(300));
+        good(&folder, "run @module @form --budget 20 --state @state", RUNNING);
+        let saved = fs::read(folder.join("state")).expect("the state");
+        let killed = Command::new("kill").args(["-INT", &child.id().to_string()]).status();
+        assert!(killed.is_ok_and(|status| status.success()));
+        let output = child.wait_with_output().expect("its end");
+        let error = String::from_utf8(output.stderr).expect("text");
+        assert_eq!(output.status.code(), Some(1), "{error}");
+        assert!(error.contains("state has changed since: another run has saved to it"), "{error}");
+        assert!(fs::read(folder.join("state")).expect("the state") == saved);
+    }
+
+    /// What a shell and the kernel call standard output and pipes.
+    #[test]
+    fn other_names_of_streams() {
+        let folder = folder("streams");
+        let program = env!("CARGO_BIN_EXE_rcm");
+        for (line, said) in [
+            ("run module form --output /dev/stdout | cat", "bedacf"),
+            ("run module form --output /dev/stdout > redirected; cat redirected", "bedacf"),
+            ("run module form --output /dev/fd/3 3>&1 >/dev/null | cat", "bedacf"),
+            ("asm text -o /dev/stdout | wc -c", "1024"),
+            ("run module form --output - | true", ""),
+        ] {
+            let mut shell = Command::new("sh");
+            shell.args(["-c", &format!("{program} {line}")]).current_dir(&folder);
+            let output = shell.output().expect("a shell");
+            let out = String::from_utf8(output.stdout).expect("text");
+            assert_eq!(out.trim(), said, "{line}\n{}", String::from_utf8_lossy(&output.stderr));
+        }
     }
 
     #[test]

@@ -61,7 +61,8 @@ fn a_whole_list_in_each_shape() {
     let ran = rcm(&folder, "list @module @form --json");
     assert_eq!((ran.status, ran.error.as_str()), (DONE, ""));
     assert_eq!(ran.out.lines().count(), 1, "{}", ran.out);
-    let whole = "{'answer': 'ended', 'value': 6, 'steps': 335, 'partial': False, \
+    let whole =
+        "{'answer': 'ended', 'value': 6, 'steps': 335, 'interrupted': False, 'partial': False, \
                  'list': [98, 101, 100, 97, 99, 102]}";
     assert_eq!(json(&ran.out, ""), whole);
 }
@@ -93,7 +94,7 @@ fn a_list_that_is_still_running_is_marked() {
     }
     let ran = rcm(&folder, "list @module @form --budget 300 --json");
     assert_eq!(ran.status, RUNNING);
-    let partial = "{'answer': 'running', 'steps': 300, 'partial': True, 'list': [98, 101]}";
+    let partial = "{'answer': 'running', 'steps': 300, 'interrupted': False, 'partial': True, 'list': [98, 101]}";
     assert_eq!(json(&ran.out, ""), partial);
     // All is written, but the module has not said so.
     assert_eq!(rcm(&folder, "list @module @form --budget 334").status, RUNNING);
@@ -115,7 +116,7 @@ fn a_list_that_has_stopped_is_marked() {
     }
     let ran = rcm(&folder, "list @module @form --json");
     let stopped = "{'answer': 'stopped', 'number': 36, \
-                   'meaning': 'a zero divisor, or a signed quotient over i32', 'steps': 9, \
+                   'meaning': 'a zero divisor, or a signed quotient over i32', 'steps': 9, 'interrupted': False, \
                    'partial': True, 'list': [97, 10, 92, 200]}";
     assert_eq!((ran.status, json(&ran.out, "")), (STOPPED, stopped.to_string()));
 }
@@ -127,7 +128,7 @@ fn a_refused_list_is_explained_and_nothing_is_printed() {
     std::fs::write(arguments.join("long"), [0; 4097]).expect("a form");
     for (folder, line, said, next) in [
         (&refused, "list @module @form", "refused 7 7\n", "Tell the laboratory, and do not run"),
-        (&refused, "list @text @form --json", "refused 1 0\n", "Ask the sender"),
+        (&refused, "list @text @form --csv", "refused 1 0\n", "Ask the sender"),
         (&arguments, "list @module @form", "takes 2 arguments", "Correct the call"),
         (&arguments, "list @module @long --arguments 1,2", "over 4096 bytes", "Correct the call"),
     ] {
@@ -137,6 +138,10 @@ fn a_refused_list_is_explained_and_nothing_is_printed() {
         assert!(ran.error.contains(&format!("what to do next: {next}")), "{line}\n{}", ran.error);
     }
     assert_eq!(rcm(&arguments, "list @module @form --arguments 8,3").status, DONE);
+    // Whoever reads JSON gets an answer all the same.
+    let ran = rcm(&refused, "list @module @form --json");
+    assert_eq!(ran.status, REFUSED);
+    assert_eq!(json(&ran.out, "['answer'], v['number'], v['place']"), "('refused', 7, 7)");
 }
 
 #[test]

@@ -250,7 +250,7 @@ fn a_map_that_does_not_fit_is_not_used_and_said_so() {
         ),
         (b"not a map\n".to_vec(), "not used: line 1: expected `rcm map 1`"),
         (Vec::new(), "not used: line 1: expected `rcm map 1`"),
-        (vec![0xff; 64], "not used: expected a text in UTF-8"),
+        (vec![0xff; 64], "not used: 1: expected a text in UTF-8"),
         (unnamed.text().into_bytes(), "not used: it does not name every part of the module"),
     ] {
         std::fs::write(folder.join("module.map"), text).expect("a map");
@@ -694,7 +694,7 @@ fn verdicts_as_json() {
             &[
                 "v.get('source')",
                 first,
-                "v['title']",
+                "v['meaning']",
                 "'here:  ' + v['here']",
                 "'asked: ' + v['asked']",
             ],
@@ -754,7 +754,7 @@ fn memory_as_json() {
     let out = on(&folder, "pages @module @state --json").1;
     let stopped = "('stopped', 33, \"an index not below the array's count\")";
     let found =
-        python(&out, &["v['status'], v['number'], v['title']", "'source' in v['frames'][0]"]);
+        python(&out, &["v['status'], v['number'], v['meaning']", "'source' in v['frames'][0]"]);
     assert_eq!(found, [stopped, "False"]);
 }
 

@@ -87,7 +87,8 @@ fn what_differs_is_said_with_its_line() {
     let folder = folder("differ");
     let accepted = "accepted 2 0 1 8";
     let no_run = "refused 9 0 (the arguments or the form do not fit)";
-    let stopped = "stopped 38 4 (a byte beyond the form's end)";
+    let stopped = "stopped 38 4 (a byte beyond the form's end) \
+                   at t.asm:13: byte = form[at]: at = 0, the form has 0 bytes";
     for (lines, line, expected, found) in [
         (&["accepted 3 0 1 8"][..], 1, "accepted 3 0 1 8", accepted),
         (&["refused 7 2"], 1, "refused 7 2", accepted),
@@ -181,7 +182,7 @@ fn texts_that_do_not_assemble_fail() {
     std::fs::write(folder.join("t.asm"), [0xff]).expect("a file");
     let ran = rcm(&folder, "test @t.asm");
     assert_eq!(ran.status, BAD_INPUT);
-    assert!(ran.out.contains("t.asm: expected a text in UTF-8\n1 file, "), "{}", ran.out);
+    assert!(ran.out.contains("t.asm:1: expected a text in UTF-8\n1 file, "), "{}", ran.out);
 }
 
 #[test]

@@ -103,7 +103,7 @@ fn runs_in_one_piece_and_from_saved_states() {
     assert_eq!(std::fs::read(folder.join("output")).expect("the output"), b"bedacf");
     let (status, out, error) = rcm(&folder, line);
     assert_eq!((status, out.as_str()), (REFUSED, ""));
-    assert!(error.contains("ended or stopped already"), "{error}");
+    assert!(error.contains("this state has ended already: its list is whole"), "{error}");
 }
 
 #[test]
@@ -189,7 +189,7 @@ fn bad_input_writes_nothing() {
         ("asm @text -o @absent/new", BAD_INPUT, "No such file"),
         ("run @module", BAD_INPUT, "wanted: MODULE FORM; 1 file given\nusage"),
         ("run @module @form --budget 1 --budget 2", BAD_INPUT, "--budget is given twice"),
-        ("run @module @form --state . --arguments 1", BAD_INPUT, "found a folder"),
+        ("run @module @form --state . --arguments 1", BAD_INPUT, "--state wants a file"),
         ("run @module @absent --state @new", BAD_INPUT, "No such file"),
         ("run @module @form --fast 1", BAD_INPUT, "there is no option `--fast` here"),
         ("run @module @form --budget", BAD_INPUT, "--budget wants a value"),

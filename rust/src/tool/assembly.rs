@@ -1,8 +1,11 @@
 //! `rcm asm` and `rcm dis`.
 
 use super::files::{
-    beside, distinct, read, read_if_there, read_text, standing, write, Output, MODULE_MAX, STANDARD,
+    beside, distinct, output_name, read, read_if_there, read_text, standing, write, Output,
+    MODULE_MAX, STANDARD,
 };
+use super::maps;
+use super::saved::no_state;
 use super::words::Choice;
 use super::{counted, print, put, Command, Outcome, Session, Words, DONE};
 use crate::file::Refusal;
@@ -35,10 +38,12 @@ pub const DIS: Command = Command {
 fn asm(words: &Words, session: &mut Session) -> Outcome {
     let [source] = words.exactly(["FILE"])?;
     let target = words.option("-o").ok_or("asm: -o MODULE is wanted: where the module goes")?;
+    let target = output_name(target);
     let map = map_name(target).filter(|_| !words.flag("--no-map"));
     let mut outputs = vec![("module", target)];
     outputs.extend(map.as_deref().map(|map| ("map", map)));
     distinct(&[("text", source)], &outputs)?;
+    no_state("module", target)?;
     let text = read_text(source)?;
     let made = match words.flag("--unchecked") {
         true => assemble_unchecked(&text, source),
@@ -61,7 +66,7 @@ fn asm(words: &Words, session: &mut Session) -> Outcome {
 
 /// The map's file: none beside standard output or what is no regular file.
 fn map_name(module: &str) -> Option<String> {
-    (module != STANDARD && standing(module)).then(|| beside(module, "map"))
+    (module != STANDARD && standing(module)).then(|| beside(module, maps::ENDING))
 }
 
 /// A file under the map's name is written over only if it is a map.

@@ -110,12 +110,18 @@ impl<'m> Refused<'m> {
         text
     }
 
+    /// The place in the source with what stands there, if the map has it.
+    pub fn place(&self) -> Option<String> {
+        let here = self.here.as_ref().map_or(String::new(), |here| format!(": {here}"));
+        self.source.map(|source| format!("{}{here}", source.line()))
+    }
+
     pub fn json(&self) -> Json {
         let mut members = vec![
             ("answer", Json::text("refused")),
             ("number", Json::Number(self.number)),
             ("place", Json::Number(self.place)),
-            ("title", Json::text(refusal_title(self.number))),
+            ("meaning", Json::text(refusal_title(self.number))),
         ];
         members.extend(self.here.as_ref().map(|here| ("here", Json::text(here))));
         members.extend(self.asked.map(|asked| ("asked", Json::text(asked))));
@@ -131,11 +137,6 @@ pub fn source_json(source: &Source) -> Json {
         ("line", Json::Number(source.place.line as u64)),
         ("column", Json::Number(source.place.column as u64)),
     ])
-}
-
-/// The refusal of a file in lines.
-pub fn refusal(file: &[u8], map: Option<&Map>, answer: Answer) -> String {
-    Refused::new(file, map, answer).text()
 }
 
 /// What stands at a refusal's place, and where the source has it.

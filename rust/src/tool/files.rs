@@ -5,9 +5,10 @@
 use super::Session;
 use crate::file::{BLOCK_BYTES, MAX_BLOCKS};
 use crate::state::{FORM_BYTES, OUTPUT_BYTES, STATE_BYTES};
-use std::ffi::OsString;
+use std::ffi::{c_char, c_void, CString};
 use std::fs::{File, Metadata, OpenOptions};
 use std::io::{ErrorKind, Read, Write};
+use std::os::unix::ffi::OsStrExt;
 use std::os::unix::fs::{fchown, MetadataExt, OpenOptionsExt, PermissionsExt};
 use std::path::{Path, PathBuf};
 
@@ -47,11 +48,14 @@ pub fn read(name: &str, most: usize) -> Result<Vec<u8>, String> {
     Ok(bytes)
 }
 
-/// The bytes of a file that may be missing.
+/// The bytes of a regular file that may be missing. Anything else in its place is an error: a pipe
+/// would be waited for.
 pub fn read_if_there(name: &str, most: usize) -> Result<Option<Vec<u8>>, String> {
-    match Path::new(name).try_exists() {
-        Ok(false) if name != STANDARD => Ok(None),
-        _ => read(name, most).map(Some),
+    match std::fs::metadata(name) {
+        Ok(there) if there.is_file() => read(name, most).map(Some),
+        Ok(_) => Err(format!("{name}: expected a regular file")),
+        Err(error) if error.kind() == ErrorKind::NotFound => Ok(None),
+        Err(error) => Err(failed(name)(error)),
     }
 }
 
@@ -61,7 +65,11 @@ pub fn read_text(name: &str) -> Result<String, String> {
     if bytes.len() > TEXT_MAX {
         return Err(format!("{name}: expected a text of at most {TEXT_MAX} bytes"));
     }
-    let text = String::from_utf8(bytes).map_err(|_| format!("{name}: expected a text in UTF-8"))?;
+    let text = String::from_utf8(bytes).map_err(|error| {
+        let good = &error.as_bytes()[..error.utf8_error().valid_up_to()];
+        let line = good.iter().filter(|&&byte| byte == b'\n').count() + 1;
+        format!("{name}:{line}: expected a text in UTF-8")
+    })?;
     Ok(text.strip_prefix('\u{feff}').unwrap_or(&text).to_string())
 }
 
@@ -70,9 +78,22 @@ pub fn standing(name: &str) -> bool {
     std::fs::metadata(name).map_or(true, |there| there.is_file())
 }
 
-/// A file's name with an ending behind it: the file that stands beside it.
+/// The file that stands beside another one: its name with an ending behind it. Where the name is a
+/// link it stands beside the file itself, so that it is found under each of its names.
 pub fn beside(name: &str, ending: &str) -> String {
-    format!("{name}.{ending}")
+    let link = std::fs::symlink_metadata(name).is_ok_and(|there| there.is_symlink());
+    match followed(name) {
+        Ok(path) if link => format!("{}.{ending}", path.display()),
+        _ => format!("{name}.{ending}"),
+    }
+}
+
+/// An output's name; standard output has several.
+pub fn output_name(name: &str) -> &str {
+    match name {
+        "/dev/stdout" | "/dev/fd/1" | "/proc/self/fd/1" => STANDARD,
+        _ => name,
+    }
 }
 
 /// A file of a command: what it is to the command, and its name.
@@ -137,6 +158,12 @@ fn writable(name: &str) -> Result<(), String> {
     if name == STANDARD {
         return Ok(());
     }
+    if name.is_empty() {
+        return Err("expected a file's name, found an empty word".to_string());
+    }
+    if name.ends_with('/') {
+        return Err(format!("{name}: expected a file's name, found a folder's"));
+    }
     let path = followed(name)?;
     let folder = std::fs::metadata(folder(&path)).map_err(failed(name))?;
     if !folder.is_dir() {
@@ -148,16 +175,33 @@ fn writable(name: &str) -> Result<(), String> {
         Ok(there) if there.is_file() => {
             OpenOptions::new().write(true).open(&path).map(|_| ()).map_err(failed(name))
         }
-        _ => Ok(()),
+        Ok(_) => Ok(()),
+        // Tried here, so that nothing runs for a file that cannot be made.
+        Err(error) if error.kind() == ErrorKind::NotFound => {
+            let (_, made) = new_beside(&path, PRIVATE).map_err(failed(name))?;
+            std::fs::remove_file(made).map_err(failed(name))
+        }
+        Err(error) => Err(failed(name)(error)),
     }
+}
+
+/// The path is the kernel's name of a file that a process has open.
+fn open_file(path: &Path) -> bool {
+    path.starts_with("/proc") || path.starts_with("/dev/fd")
 }
 
 /// Where a name leads: through links, also where the last one leads to no file yet. The folder is
 /// resolved too, so that one place has one path.
 fn followed(name: &str) -> Result<PathBuf, String> {
     let mut path = PathBuf::from(name);
+    // What is no file needs no path of its own: a link of /proc to a pipe leads to none.
+    if std::fs::metadata(name).is_ok_and(|there| !there.is_file()) {
+        return Ok(path);
+    }
     for _ in 0..LINKS {
         match std::fs::read_link(&path) {
+            // The links of open files do not say where the file is now.
+            Ok(_) if open_file(&path) => return Ok(PathBuf::from(name)),
             Ok(target) => path = folder(&path).join(target),
             Err(_) => {
                 let Some(last) = path.file_name() else { return Ok(path) };
@@ -223,13 +267,25 @@ fn write_beside(outputs: &[Output], ways: &mut Vec<Way>) -> Result<(), String> {
 fn put(outputs: &[Output], ways: &[Way], session: &mut Session) -> Result<(), String> {
     for (output, way) in outputs.iter().zip(ways) {
         match way {
-            Way::Standard => super::put(session.out, output.bytes),
+            // An output that nobody reads is not delivered.
+            Way::Standard => session.out.write_all(output.bytes).and_then(|()| session.out.flush()),
             Way::Straight(path) => write_straight(path, output.bytes),
-            Way::Renamed { from, to } => std::fs::rename(from, to),
+            Way::Renamed { from, to } => renamed(from, to, output.bytes),
         }
         .map_err(failed(output.name))?;
     }
     Ok(())
+}
+
+/// A file that something is mounted on keeps its place and is written there.
+fn renamed(from: &Path, to: &Path, bytes: &[u8]) -> std::io::Result<()> {
+    match std::fs::rename(from, to) {
+        Err(error) if error.kind() == ErrorKind::ResourceBusy => {
+            write_straight(to, bytes)?;
+            std::fs::remove_file(from)
+        }
+        result => result,
+    }
 }
 
 fn write_straight(path: &Path, bytes: &[u8]) -> std::io::Result<()> {
@@ -247,8 +303,11 @@ fn way(output: &Output) -> std::io::Result<Way> {
         Err(error) if error.kind() == ErrorKind::NotFound => None,
         Err(error) => return Err(error),
     };
-    // A file with a second name would lose it.
-    if there.as_ref().is_some_and(|there| !there.is_file() || there.nlink() > 1) {
+    // A file with a second name would lose it, and one with a list of who may read it that list.
+    let kept = |there: &Metadata| {
+        !there.is_file() || there.nlink() > 1 || open_file(&to) || has_access_list(&to)
+    };
+    if there.as_ref().is_some_and(kept) {
         return Ok(Way::Straight(to));
     }
     match renamable(output, &to, there.as_ref()) {
@@ -260,6 +319,19 @@ fn way(output: &Output) -> std::io::Result<Way> {
         }
         Err(error) => Err(error),
     }
+}
+
+extern "C" {
+    fn getxattr(path: *const c_char, name: *const c_char, value: *mut c_void, size: usize)
+        -> isize;
+}
+
+/// The file has an access control list, which its mode does not say.
+fn has_access_list(path: &Path) -> bool {
+    let Ok(path) = CString::new(path.as_os_str().as_bytes()) else { return false };
+    let name = c"system.posix_acl_access";
+    // SAFETY: both names end with a zero byte, and of a value of size 0 nothing is written.
+    unsafe { getxattr(path.as_ptr(), name.as_ptr(), std::ptr::null_mut(), 0) > 0 }
 }
 
 /// A file beside `to` with the output's bytes, and with the mode and owner of the file that is there.
@@ -279,10 +351,7 @@ fn renamable(output: &Output, to: &Path, there: Option<&Metadata>) -> std::io::R
 fn new_beside(to: &Path, mode: u32) -> std::io::Result<(File, PathBuf)> {
     let mut number = std::process::id();
     loop {
-        let mut name = OsString::from(".");
-        name.push(to.file_name().unwrap_or_default());
-        name.push(format!(".{number}.part"));
-        let from = folder(to).join(name);
+        let from = folder(to).join(format!(".rcm-{number}.part"));
         match OpenOptions::new().write(true).create_new(true).mode(mode).open(&from) {
             Ok(file) => return Ok((file, from)),
             // Left there by a program that was killed.

@@ -54,11 +54,11 @@ fn list(words: &Words, session: &mut Session) -> Outcome {
     let mut going = Going::read(module_name, form_name)?;
     let opened = going.open(&arguments, session.machine()?);
     if opened[0] == host::REFUSED {
-        return refused_and_next(&going, module_name, opened, session);
+        return refused_and_next(&going, module_name, opened, words, session);
     }
     let went = going.go_in_slices(budget, session)?;
     if went.answer[0] == host::REFUSED {
-        return refused_and_next(&going, module_name, went.answer, session);
+        return refused_and_next(&going, module_name, went.answer, words, session);
     }
     print(session.out, &text(&went, going.written(), shape))?;
     if let Some(mark) = mark(&went) {
@@ -68,8 +68,14 @@ fn list(words: &Words, session: &mut Session) -> Outcome {
     Ok(went.status())
 }
 
-fn refused_and_next(going: &Going, name: &str, answer: Answer, session: &mut Session) -> Outcome {
-    let status = refused(going, name, answer, session)?;
+fn refused_and_next(
+    going: &Going,
+    name: &str,
+    answer: Answer,
+    words: &Words,
+    session: &mut Session,
+) -> Outcome {
+    let status = refused(going, [name, name], answer, words.flag("--json"), session)?;
     session.say(&next(answer));
     Ok(status)
 }
@@ -139,6 +145,7 @@ fn json(went: &Went, list: &[u8]) -> Json {
     };
     members.extend([
         ("steps", Json::Number(steps)),
+        ("interrupted", Json::Bool(went.interrupted.is_some())),
         ("partial", Json::Bool(went.partial())),
         ("list", Json::bytes(list)),
     ]);

@@ -1,26 +1,28 @@
 //! The map beside a module (`MODULE.map`), where it is there and fits.
 
-use super::files::{beside, read_text, STANDARD};
+use super::files::{beside, read_text, MODULE_MAX, STANDARD};
 use super::Session;
 use crate::module::decode;
 use crate::text::Map;
 use std::path::Path;
 
-const ENDING: &str = "map";
+/// The ending of its name, behind the module's.
+pub const ENDING: &str = "map";
 
 /// The map of a module file, if there is one that can be used; if there is one that cannot, a note
 /// that says why. What is read from standard input has none.
 pub fn map_of(name: &str, file: &[u8]) -> (Option<Map>, Option<String>) {
     let map_name = beside(name, ENDING);
-    if name == STANDARD || !Path::new(&map_name).exists() {
+    // Of a file that was not read to its end nothing can be known.
+    if name == STANDARD || file.len() > MODULE_MAX || !Path::new(&map_name).exists() {
         return (None, None);
     }
     match fitting(&map_name, file) {
         Ok(map) => (Some(map), None),
         Err(reason) => {
-            let named = format!("{map_name}: ");
-            let reason = reason.strip_prefix(&named).unwrap_or(&reason);
-            (None, Some(format!("{named}not used: {reason}")))
+            let reason = reason.strip_prefix(&map_name).unwrap_or(&reason);
+            let reason = reason.trim_start_matches([':', ' ']);
+            (None, Some(format!("{map_name}: not used: {reason}")))
         }
     }
 }

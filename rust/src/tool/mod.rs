@@ -8,6 +8,7 @@ mod files;
 mod going;
 mod heap;
 mod json;
+mod kept;
 mod listing;
 mod maps;
 mod numbers;
@@ -57,8 +58,8 @@ pub const COMMANDS: [&Command; 8] = [
 ];
 
 const STATUSES: &str = "\
-exit status: 0 done, accepted or ended; 1 wrong usage or bad input; 2 refused; 3 stopped; 4 running;
-             130 or 143 interrupted, and what was reached is saved
+exit status: 0 done, accepted, ended or all tests passed; 1 wrong usage, bad input or tests that differ; 2 refused; 3 stopped;
+             4 running; 129, 130 or 143 interrupted, and saved where --state says
 ";
 
 const FILES: &str = "`-` as a file is standard input or output; an option's value may stand behind `=`; numbers may be hexadecimal (0x2a)\n";
@@ -121,8 +122,8 @@ impl Session<'_> {
     fn machine(&mut self) -> Result<&mut dyn Interface, String> {
         match &mut self.machine {
             Some(machine) => Ok(&mut **machine),
-            None => Err("built without the proved library: only asm and dis are here; build with \
-                 --features librcm and RCM_LIB_DIR"
+            None => Err("built without the proved library: only asm, dis and explain are here; \
+                 build with --features librcm and RCM_LIB_DIR"
                 .to_string()),
         }
     }
@@ -168,7 +169,7 @@ fn command(first: &str, rest: &[String], session: &mut Session) -> Outcome {
 fn version(library: bool) -> String {
     let decides = match library {
         true => "with the proved library",
-        false => "without the proved library: asm and dis alone",
+        false => "without the proved library: asm, dis and explain alone",
     };
     let version = env!("CARGO_PKG_VERSION");
     format!("rcm {version}, edition {EDITION} (document 01 with P1 and P2), {decides}\n")

@@ -2,10 +2,12 @@
 //! (`pages_json.rs`) and as a picture (`picture.rs`). An object's place and size are the reader's; owners and marks are read
 //! from the state's bytes (docs/STATE.md).
 
-use super::files::{distinct, read, write, Output, MODULE_MAX, STATE_MAX};
+use super::explain::Refused;
+use super::files::{beside, distinct, output_name, read, write, Output, MODULE_MAX, STATE_MAX};
 use super::heap::{Field, Heap, Object, Region};
-use super::maps::usable_map;
+use super::maps::{self, usable_map};
 use super::picture::picture;
+use super::saved::{no_state, INFO_ENDING};
 use super::standing::Standing;
 use super::words::{number, Choice};
 use super::{counted, explain, print, Command, Outcome, Session, Words, DONE, REFUSED};
@@ -67,23 +69,33 @@ pub const PAGES_COMMAND: Command = Command {
 
 fn pages(words: &Words, session: &mut Session) -> Outcome {
     let [module_name, state_name] = words.exactly(["MODULE", "STATE"])?;
-    let picture_name = words.option("--svg");
+    let picture_name = words.option("--svg").map(output_name);
     let outputs: Vec<_> = picture_name.iter().map(|name| ("picture", *name)).collect();
-    distinct(&[("module", module_name), ("state", state_name)], &outputs)?;
+    let (map, info) = (beside(module_name, maps::ENDING), beside(state_name, INFO_ENDING));
+    let inputs = [
+        ("module", module_name),
+        ("state", state_name),
+        ("module's map", &map),
+        ("state's info", &info),
+    ];
+    distinct(&inputs, &outputs)?;
+    picture_name.map_or(Ok(()), |name| no_state("picture", name))?;
     let (file, bytes) = (read(module_name, MODULE_MAX)?, read(state_name, STATE_MAX)?);
     let addresses = words.all("--address").map(|word| number("--address", word));
     let addresses = addresses.collect::<Result<Vec<u32>, String>>()?;
     let answer = session.machine()?.test(&file, &bytes);
     if answer[0] == host::REFUSED {
+        let map = usable_map(module_name, &file, session);
+        let refusal = Refused::new(&file, map.as_ref(), answer);
         let message = match answer[1] {
             20 => format!("{state_name}: {}", explain::state_length(&bytes)),
             21 => format!("{state_name}: refused 21 0: this is no sound state of {module_name}"),
-            _ => {
-                let map = usable_map(module_name, &file, session);
-                format!("{module_name}: {}", explain::refusal(&file, map.as_ref(), answer))
-            }
+            _ => format!("{module_name}: {}", refusal.text()),
         };
         session.say(&message);
+        if words.flag("--json") {
+            print(session.out, &format!("{}\n", refusal.json()))?;
+        }
         return Ok(REFUSED);
     }
     let module = decode(&file).map_err(|_| "the module does not decode".to_string())?;

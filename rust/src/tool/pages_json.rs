@@ -26,7 +26,7 @@ impl View<'_> {
             stop => vec![
                 ("status", Json::text("stopped")),
                 ("number", Json::Number(u64::from(stop))),
-                ("title", Json::text(explain::stop_title(u64::from(stop)))),
+                ("meaning", Json::text(explain::stop_title(u64::from(stop)))),
             ],
         };
         members.extend([

@@ -1,35 +1,42 @@
 //! A stop in plain words: the instruction that stopped and the values that explain it.
 
-use super::explain::stop_title;
+use super::explain::{source_json, stop_title};
 use super::heap::Heap;
 use super::json::Json;
 use super::standing::Standing;
 use super::{counted, numbers};
 use crate::module::{Module, Term};
 use crate::state::{State, MEMORY_BYTES, PAGES, PAGE_BYTES};
-use crate::text::{Listing, Names, Scope};
+use crate::text::{Listing, Names, Scope, Source};
 
 /// The operation of kind 18 whose operands have a sign: the quotient to the nearest.
 const NEAREST: u32 = 10;
 
 /// A stop: what its number means, where and why, and what to do next.
-pub struct Stopped {
+pub struct Stopped<'m> {
     meaning: &'static str,
-    at: Option<String>,
+    /// The place, the instruction and the values that explain it.
+    pub at: Option<String>,
+    source: Option<Source<'m>>,
     advice: Option<&'static str>,
 }
 
-impl Stopped {
+impl<'m> Stopped<'m> {
     pub fn new(
         module: &Module,
-        names: Names,
+        names: Names<'m>,
         state: &State,
         form_length: usize,
         number: u64,
-    ) -> Stopped {
+    ) -> Stopped<'m> {
+        let frame = state.frames.last();
+        let source = frame.and_then(|frame| {
+            names.instruction_source(usize::from(frame.function), usize::from(frame.instruction))
+        });
         Stopped {
             meaning: stop_title(number),
             at: stopped_at(module, names, state, form_length, number),
+            source,
             advice: numbers::stop(number).map(|one| one.advice),
         }
     }
@@ -45,6 +52,7 @@ impl Stopped {
     pub fn members(&self) -> Vec<(&'static str, Json)> {
         let mut members = vec![("meaning", Json::text(self.meaning))];
         members.extend(self.at.as_ref().map(|at| ("at", Json::text(at))));
+        members.extend(self.source.map(|source| ("source", source_json(&source))));
         members.extend(self.advice.map(|advice| ("advice", Json::text(advice))));
         members
     }

@@ -1,19 +1,21 @@
 //! `rcm test`: runs the `#:` lines of texts and says what differs.
 
+use super::explain::Refused;
 use super::files::{read_text, STANDARD};
-use super::going::Going;
+use super::going::{stopped, Going};
 use super::numbers;
 use super::script::{self, Answered, Case, Script};
 use super::{counted, print, Command, Outcome, Session, Words, BAD_INPUT, DONE};
 use crate::compare::Interface;
 use crate::host::{self, Answer, FUNCTIONS_UNIT};
+use crate::module::decode;
 use crate::state::{OUTPUT_BYTES, STATE_BYTES};
-use crate::text::{assemble_unchecked, report};
+use crate::text::{assemble_unchecked, report, Assembled, Names};
 use std::path::{Path, PathBuf};
 
 pub const TEST: Command = Command {
     name: "test",
-    takes: "FILE.asm..",
+    takes: "FILE.asm | FOLDER ..",
     options: &[],
     does: "runs the `#:` lines of texts, or of all texts in a folder, and says what differs",
     run: test,
@@ -118,23 +120,30 @@ impl Report {
             }
         });
         if let (Ok(assembled), Ok(script)) = (assembled, script) {
-            self.module(name, &assembled.file, &script, machine);
+            self.module(name, &assembled, &script, machine);
         }
     }
 
-    fn module(&mut self, name: &str, file: &[u8], script: &Script, machine: &mut dyn Interface) {
+    fn module(
+        &mut self,
+        name: &str,
+        made: &Assembled,
+        script: &Script,
+        machine: &mut dyn Interface,
+    ) {
         if let Some(expected) = &script.verdict {
-            let found = answered(machine.check(file));
-            self.expectation(name, expected.line, answer_difference(&expected.what, &found));
+            let answer = machine.check(&made.file);
+            let place = || refused_at(made, answer);
+            self.expectation(name, expected.line, answer_difference(&expected.what, answer, place));
         }
         for case in &script.cases {
-            self.case(name, file, case, machine);
+            self.case(name, made, case, machine);
         }
     }
 
-    fn case(&mut self, name: &str, file: &[u8], case: &Case, machine: &mut dyn Interface) {
+    fn case(&mut self, name: &str, made: &Assembled, case: &Case, machine: &mut dyn Interface) {
         let mut going = Going {
-            file: file.to_vec(),
+            file: made.file.clone(),
             form: case.form().to_vec(),
             state: vec![0; STATE_BYTES],
             output: vec![0; OUTPUT_BYTES],
@@ -143,13 +152,18 @@ impl Report {
             refusal @ [host::REFUSED, ..] => refusal,
             _ => going.go(machine, case.budget()),
         };
-        let found = answered(answer);
         if let Some(expected) = &case.answer {
-            self.expectation(name, expected.line, answer_difference(&expected.what, &found));
+            let place = || match answer[0] {
+                host::REFUSED => refused_at(made, answer),
+                _ => stopped_at(made, &going, answer),
+            };
+            self.expectation(name, expected.line, answer_difference(&expected.what, answer, place));
         }
         if let Some(expected) = &case.output {
             let difference = match answer[0] {
-                host::REFUSED => Some(format!("expected a run, found {}", meant(&found))),
+                host::REFUSED => {
+                    Some(format!("expected a run, found {}", meant(&answered(answer))))
+                }
                 _ => output_difference(&expected.what, going.written()),
             };
             self.expectation(name, expected.line, difference);
@@ -192,8 +206,29 @@ fn meant(found: &Answered) -> String {
     number.map_or(found.to_string(), |number| format!("{found} ({})", number.meaning))
 }
 
-fn answer_difference(expected: &Answered, found: &Answered) -> Option<String> {
-    (!expected.fits(found)).then(|| format!("expected {expected}, found {}", meant(found)))
+/// What differs, and where in the text that which was found has its place.
+fn answer_difference(
+    expected: &Answered,
+    answer: Answer,
+    place: impl FnOnce() -> Option<String>,
+) -> Option<String> {
+    let found = answered(answer);
+    if expected.fits(&found) {
+        return None;
+    }
+    let place = place().map_or(String::new(), |place| format!(" at {place}"));
+    Some(format!("expected {expected}, found {}{place}", meant(&found)))
+}
+
+/// Where the text has what is refused, with what stands there.
+fn refused_at(made: &Assembled, answer: Answer) -> Option<String> {
+    Refused::new(&made.file, Some(&made.map), answer).place()
+}
+
+fn stopped_at(made: &Assembled, going: &Going, answer: Answer) -> Option<String> {
+    let module = decode(&made.file).ok()?;
+    let map = Some(&made.map).filter(|map| map.fits(&made.file, &module));
+    stopped(&module, Names::of(map), going, answer)?.at
 }
 
 /// Short outputs whole, long ones by their lengths and the first byte that differs.

@@ -3,10 +3,13 @@
 
 use super::going::Going;
 use super::standing::Standing;
-use crate::compare::Interface;
+use super::Session;
 use crate::module::{Module, KIND_CALL};
 use crate::state::{State, ENDED, FIRST_STOP, OUTPUT_BYTES};
 use crate::text::{Listing, Names};
+
+/// The most steps that are shown: each is a call of its own.
+pub const TRACE_MAX: u64 = 100_000;
 
 /// The least width of the columns for places and instructions.
 const PLACE: usize = 8;
@@ -20,8 +23,8 @@ pub fn traced(
     before: Vec<u8>,
     steps: u64,
     last: u64,
-    machine: &mut dyn Interface,
-) -> String {
+    session: &mut Session,
+) -> Result<String, String> {
     let mut again = Going {
         file: going.file.clone(),
         form: going.form.clone(),
@@ -30,17 +33,20 @@ pub fn traced(
     };
     let from = steps.saturating_sub(last);
     if from > 0 {
-        again.go(machine, from);
+        again.go_in_slices(from, session)?;
     }
     let listing = Listing::new(module, names);
     let mut rows = Vec::new();
     for step in from..steps {
         let Ok(view) = State::from_bytes(&again.state) else { break };
-        again.go(machine, 1);
+        if (session.interrupted)().is_some() {
+            break;
+        }
+        again.go(session.machine()?, 1);
         let after = State::from_bytes(&again.state).ok();
         rows.extend(after.and_then(|after| row(&listing, step + 1, &view, &after)));
     }
-    table(&rows)
+    Ok(table(&rows))
 }
 
 /// One step: its number, its place, its instruction, indented by the frame's depth, and the values.
