@@ -23,6 +23,11 @@ from typing import NamedTuple, Optional
 
 __all__ = ["Answer", "Module", "Object", "Refused", "Run", "Verdict", "check", "refusal_advice", "refusal_text", "stop_advice", "stop_text"]
 
+# `make install` fills in the version and the folder of the shared library.
+__version__ = "@VERSION@"
+_LIBDIR = "@LIBDIR@"
+_SHARED = "librcm.so.0"
+
 # The lengths and answers of include/rcm.h.
 MODULE_MAX = 32768
 FORM_MAX = 4096
@@ -115,18 +120,9 @@ def stop_advice(number: int) -> str:
     return _text("STOP", number, 1)
 
 
-_SHARED = "librcm.so.0"
-
-
 def _find_library() -> str:
-    named = os.environ.get("RCM_LIBRARY")
-    if named:
-        return named
-    # PREFIX/lib/python3.x/site-packages/rcm: the library lies in PREFIX/lib.
-    for folder in pathlib.Path(__file__).resolve().parents[1:4]:
-        if (folder / _SHARED).is_file():
-            return str(folder / _SHARED)
-    return _SHARED
+    installed = pathlib.Path(_LIBDIR) / _SHARED
+    return os.environ.get("RCM_LIBRARY") or (str(installed) if installed.is_file() else _SHARED)
 
 
 def _load_library() -> ctypes.CDLL:

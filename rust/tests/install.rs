@@ -56,18 +56,19 @@ fn finished(what: &str, output: &Output) -> String {
 
 /// A line for bash in a folder; everything that it prints.
 fn bash(folder: &Path, line: &str) -> String {
-    let shell = Command::new("bash").args(["-euc", line]).current_dir(folder).output();
-    finished(line, &shell.expect("bash"))
+    let mut shell = Command::new("bash");
+    shell.args(["-euc", line]).current_dir(folder).env_remove("MAKEFLAGS");
+    finished(line, &shell.output().expect("bash"))
 }
 
-/// Whether a program is there. One that is missing is told on standard error: its test is skipped.
 fn has(program: &str) -> bool {
     let line = format!("command -v {program}");
-    let found = Command::new("bash").args(["-c", &line]).output().expect("bash");
-    if !found.status.success() {
-        eprintln!("install: {program} is missing, and what needs it is not tested");
-    }
-    found.status.success()
+    Command::new("bash").args(["-c", &line]).output().expect("bash").status.success()
+}
+
+/// A test that passed without its program would say nothing.
+fn need(program: &str) {
+    assert!(has(program), "expected the program {program}, which this test needs: found none");
 }
 
 /// `make` of the repository into a folder of the test, with these words.
@@ -154,6 +155,231 @@ fn install_puts_everything_in_its_place_and_uninstall_takes_it_away() {
     assert!(!there.join("lib/cmake/rcm").exists() && !there.join("python/rcm").exists());
 }
 
+/// The words of an install that is staged in this folder.
+fn staged(folder: &Path) -> [String; 3] {
+    [
+        "PREFIX=/usr".to_string(),
+        "PYTHONDIR=/usr/python".to_string(),
+        format!("DESTDIR={}", folder.join("stage").display()),
+    ]
+}
+
+/// `make` of one target with these words and more.
+fn make_with(folder: &Path, target: &str, words: &[String], more: &[&str]) -> Output {
+    let words = words.iter().map(String::as_str);
+    make(folder, &[target].into_iter().chain(words).chain(more.iter().copied()).collect::<Vec<_>>())
+}
+
+#[test]
+fn uninstall_leaves_the_files_of_others() {
+    let folder = new_folder("install-others");
+    let stage = folder.join("stage/usr");
+    let foreign = [
+        "bin/rcmx",
+        "include/rcm.hpp",
+        "lib/librcm.so.1",
+        "lib/librcmx.a",
+        "lib/cmake/rcm/other.cmake",
+        "python/rcm/__pycache__/other.pyc",
+        "share/doc/rcm/NOTES",
+        "share/man/man3/rcm.3x",
+    ];
+    for name in foreign {
+        fs::create_dir_all(stage.join(name).parent().expect("a folder")).expect("a folder");
+        fs::write(stage.join(name), name).expect("a file");
+    }
+    let words = staged(&folder);
+    finished("install", &make_with(&folder, "install", &words, &[]));
+    // What Python and an earlier version of the same soname leave there is this project's too.
+    for name in ["python/rcm/__pycache__/__init__.cpython-311.pyc", "lib/librcm.so.0.1.0"] {
+        fs::write(stage.join(name), "").expect("a file");
+    }
+    finished("uninstall", &make_with(&folder, "uninstall", &words, &[]));
+    assert_eq!(files(&stage), foreign.map(str::to_string).into());
+    for name in foreign {
+        assert_eq!(fs::read_to_string(stage.join(name)).expect("a file"), name);
+    }
+}
+
+/// No target takes a path that the shell would read as two, or as more than a name.
+#[test]
+fn a_path_with_blanks_or_signs_is_refused_and_nothing_changes() {
+    let folder = new_folder("install-blanks");
+    let words = staged(&folder);
+    finished("install", &make_with(&folder, "install", &words, &[]));
+    let stage = folder.join("stage");
+    // What a path with a blank would be cut to.
+    fs::write(stage.join("usr/kept"), "").expect("a file");
+    let before = files(&folder);
+    let signs = "expected a path without blanks and without any of";
+    let root = "expected a path from the root";
+    for (word, message) in [
+        ("PREFIX=/usr/kept b", signs),
+        ("PREFIX=/usr\tlocal", signs),
+        ("PREFIX=/usr\nlocal", signs),
+        ("PREFIX=/usr'", signs),
+        ("PREFIX=/usr\"", signs),
+        ("PREFIX=/us&r", signs),
+        ("PREFIX=/us|r", signs),
+        ("PREFIX=/us\\r", signs),
+        ("PREFIX=/us$$r", signs),
+        ("DESTDIR=/stage b", signs),
+        ("LIBDIR=/usr/lib b", signs),
+        ("BINDIR=/usr/bin b", signs),
+        ("INCLUDEDIR=/usr/include b", signs),
+        ("SHAREDIR=/usr/share b", signs),
+        ("PYTHONDIR=/usr/python b", signs),
+        ("BUILD=build b", signs),
+        ("BUILD=", "BUILD=: expected a path"),
+        ("LIB=lib b/librcm.a", signs),
+        ("TOOL=the tool", signs),
+        ("PREFIX=", root),
+        ("PREFIX=usr", root),
+        ("DESTDIR=stage", root),
+        ("LIBDIR=lib", root),
+        ("PYTHONDIR=python", root),
+    ] {
+        let targets = ["all", "install", "uninstall"];
+        for target in targets.iter().filter(|target| message != root || **target != "all") {
+            let output = make_with(&folder, target, &words, &[word]);
+            let error = lossy(&output.stderr);
+            assert!(!output.status.success(), "{target} {word:?}");
+            assert!(error.contains(message), "{target} {word:?}\n{error}");
+            assert_eq!(files(&folder), before, "{target} {word:?}");
+        }
+    }
+}
+
+/// The modes do not depend on who installs; nothing is written to the folder of the build, which
+/// may be somebody else's.
+#[test]
+fn install_only_reads_the_build_and_sets_the_modes() {
+    let folder = new_folder("install-modes");
+    finished("make", &make(&folder, &[]));
+    let build = folder.join("build");
+    let listing = "find . -printf '%p %m %T@\n' | sort";
+    let before = bash(&build, listing);
+    let line = format!(
+        "umask 077; make -s -C {} install LIB={} TOOL={} BUILD={} {}",
+        repository().display(),
+        library().display(),
+        env!("CARGO_BIN_EXE_rcm"),
+        build.display(),
+        staged(&folder).join(" ")
+    );
+    // A second install replaces files whatever their modes.
+    for change in ["true", "find stage -type f -exec chmod 400 {} +"] {
+        bash(&folder, change);
+        bash(&folder, &line);
+        assert_eq!(bash(&build, listing), before);
+        let stage = folder.join("stage/usr");
+        let programs = "find . -type f -perm 755 | sort";
+        assert_eq!(bash(&stage, programs), "./bin/rcm\n./lib/librcm.so.0.2.0\n");
+        assert_eq!(
+            bash(&stage, "find . -type f ! -perm 755 ! -perm 644; find . -type d ! -perm 755"),
+            ""
+        );
+    }
+}
+
+/// An archive that is not the library's is refused before anything is installed.
+#[test]
+fn an_archive_without_the_functions_is_refused() {
+    let folder = new_folder("install-archive");
+    let source = "void rcm_check(void) {}\nvoid rcm_opened(void) {}\nvoid other(void) {}\n";
+    fs::write(folder.join("other.c"), source).expect("a file");
+    bash(&folder, "gcc -c other.c && ar rcs other.a other.o");
+    fs::write(folder.join("text.a"), "no archive").expect("a file");
+    let words = staged(&folder);
+    for (name, missing) in [("other.a", "rcm_open"), ("text.a", "rcm_check")] {
+        let library = format!("LIB={}", folder.join(name).display());
+        let output = make_with(&folder, "install", &words, &[&library]);
+        let error = lossy(&output.stderr);
+        let message = format!(
+            "{library}: expected an archive with the functions rcm_check rcm_open rcm_go rcm_test rcm_object; found no {missing}\n"
+        );
+        assert!(!output.status.success() && error.contains(&message), "{error}");
+        assert!(!folder.join("stage").exists() && !folder.join("build/librcm.a").exists());
+    }
+}
+
+/// An install without a tool says so, also where an earlier one stays.
+#[test]
+fn a_tool_of_an_earlier_install_is_told() {
+    let folder = new_folder("install-tool");
+    let words = staged(&folder);
+    // The tool's usual place, where it is missing: a copy of the sources has none.
+    let root = repository().display().to_string();
+    let copied = "Makefile LICENSE CHANGELOG.md c completions include man packaging python";
+    bash(&folder, &format!("mkdir copy && cd {root} && cp -r {copied} {}/copy", folder.display()));
+    let line = format!(
+        "make -s -C copy install LIB={} BUILD={}/build {}",
+        library().display(),
+        folder.display(),
+        words.join(" ")
+    );
+    let missing = "the tool rcm is not installed: rust/target/release/rcm is missing";
+    let stays = "the tool of an earlier install stays: ";
+    let said = bash(&folder, &line);
+    assert!(said.contains(missing) && !said.contains(stays), "{said}");
+    fs::write(folder.join("stage/usr/bin/rcm"), "").expect("a file");
+    let said = bash(&folder, &line);
+    assert!(said.contains(missing) && said.contains(stays), "{said}");
+}
+
+/// The folder of the Python module is below PREFIX: not that of /usr/local for /usr, which Debian's
+/// Python names first.
+#[test]
+fn the_python_module_goes_below_the_prefix() {
+    let folder = new_folder("install-python");
+    let debian = r#"#!/bin/sh
+exec python3 "$1" "import site
+site.getsitepackages = lambda: ['/usr/local/lib/python3.11/dist-packages', '/usr/lib/python3/dist-packages']
+$2" "$3"
+"#;
+    fs::write(folder.join("debian"), debian).expect("a program");
+    bash(&folder, "chmod +x debian");
+    let python = format!("PYTHON={}", folder.join("debian").display());
+    for (prefix, expected) in [
+        ("/usr", "usr/lib/python3/dist-packages/rcm/__init__.py"),
+        ("/usr/", "usr/lib/python3/dist-packages/rcm/__init__.py"),
+        ("/usr/local", "usr/local/lib/python3.11/dist-packages/rcm/__init__.py"),
+    ] {
+        let stage = folder.join(format!("stage{}", prefix.replace('/', "-")));
+        let destination = format!("DESTDIR={}", stage.display());
+        let prefix = format!("PREFIX={prefix}");
+        finished("install", &make(&folder, &["install", &python, &destination, &prefix]));
+        let found = files(&stage);
+        let modules: Vec<_> = found.iter().filter(|name| name.ends_with("__init__.py")).collect();
+        assert_eq!(modules, [expected], "{prefix}");
+    }
+}
+
+/// The Python module takes the library of its install, also where LIBDIR is elsewhere, and has the
+/// version of the header.
+#[test]
+fn the_python_module_finds_the_library_of_its_install() {
+    let folder = new_folder("install-libdir");
+    for libraries in ["rcm/lib", "rcm/lib64", "elsewhere"] {
+        let libraries = folder.join(libraries);
+        let words = [
+            format!("PREFIX={}", folder.join("rcm").display()),
+            format!("PYTHONDIR={}", folder.join("modules").display()),
+            format!("LIBDIR={}", libraries.display()),
+        ];
+        finished("install", &make_with(&folder, "install", &words, &[]));
+        let script = "import rcm; print(rcm._LIBRARY._name, rcm.__version__)";
+        let python = Command::new("python3")
+            .args(["-Bc", script])
+            .env("PYTHONPATH", folder.join("modules"))
+            .env_remove("RCM_LIBRARY")
+            .env_remove("LD_LIBRARY_PATH")
+            .output();
+        let expected = format!("{} 0.2.0\n", libraries.join("librcm.so.0").display());
+        assert_eq!(finished("python", &python.expect("python3")), expected);
+    }
+}
+
 #[test]
 fn the_shared_library_has_its_name_and_exports_the_five_functions() {
     let folder = new_folder("shared");
@@ -193,7 +419,7 @@ fn a_missing_archive_is_proved_with_a_word_before() {
     let folder = new_folder("install-proving");
     let tools = folder.join("tools");
     fs::create_dir(&tools).expect("a folder");
-    for tool in ["sed", "mkdir", "cmp", "cp"] {
+    for tool in ["sed", "mkdir", "cmp", "cp", "nm", "grep"] {
         let path = bash(&folder, &format!("command -v {tool}"));
         std::os::unix::fs::symlink(path.trim_end(), tools.join(tool)).expect("a link");
     }
@@ -262,6 +488,9 @@ fn page_parts(page: &str) -> Page {
 #[test]
 fn the_page_for_hosts_does_what_it_says() {
     const MARK: &str = "next command";
+    for program in ["cmake", "pkg-config", "g++", "python3"] {
+        need(program);
+    }
     let home = new_folder("hosts");
     let page = fs::read_to_string(repository().join("docs/HOSTS.md")).expect("the page");
     let Page { sources, commands } = page_parts(&page);
@@ -654,9 +883,7 @@ fn the_manual_and_the_completions_have_every_command_and_option() {
 
 #[test]
 fn the_manual_pages_have_no_warnings() {
-    if !has("groff") {
-        return;
-    }
+    need("groff");
     for page in ["rcm.1", "rcm.3"] {
         let said = bash(&repository(), &format!("groff -man -ww -Tutf8 -z man/{page}"));
         assert_eq!(said, "", "{page}");
