@@ -1,8 +1,10 @@
 """Tests of the module rcm. The folder that RCM_TEST_FILES names holds the modules `ranking`, `stops` (stop 33) and `sum` (adds its two
 arguments), and the form `form` of the ranking."""
 
+import copy
 import os
 import pathlib
+import pickle
 import threading
 import unittest
 
@@ -34,6 +36,15 @@ class Checking(unittest.TestCase):
             self.assertEqual((caught.exception.number, caught.exception.place), (number, place))
             self.assertEqual(caught.exception.text, rcm.refusal_text(number))
             self.assertIn(f"refused {number} {place}: ", str(caught.exception))
+
+    def test_a_refusal_is_copied_and_pickled_whole(self):
+        with self.assertRaises(rcm.Refused) as caught:
+            rcm.check(b"")
+        refused = caught.exception
+        for other in (copy.copy(refused), copy.deepcopy(refused), pickle.loads(pickle.dumps(refused))):
+            self.assertIsInstance(other, rcm.Refused)
+            self.assertEqual(vars(other), vars(refused))
+            self.assertEqual((str(other), other.number, other.place), (str(refused), 1, 0))
 
     def test_types(self):
         with self.assertRaisesRegex(TypeError, "the module: expected bytes, found str"):
@@ -108,6 +119,27 @@ class Running(unittest.TestCase):
         for thread in threads:
             thread.join()
         self.assertEqual(outputs, [LIST] * 8)
+
+    def test_one_run_in_two_threads(self):
+        # Every step is made once, by whichever thread; the one that comes too late is refused.
+        run = rcm.Module(RANKING).open()
+        steps, refused = [], []
+
+        def share():
+            try:
+                while run.status == "running":
+                    steps.append(run.go(FORM, budget=1).steps)
+                    self.assertTrue(LIST.startswith(run.output))
+            except rcm.Refused as late:
+                refused.append(late.number)
+
+        threads = [threading.Thread(target=share) for _ in range(2)]
+        for thread in threads:
+            thread.start()
+        for thread in threads:
+            thread.join()
+        self.assertEqual((sum(steps), run.result, run.output), (335, 6, LIST))
+        self.assertLessEqual(set(refused), {22})
 
 
 class States(unittest.TestCase):

@@ -58,7 +58,11 @@ class Refused(Exception):
         self.place = place
         self.text = refusal_text(number)
         self.advice = refusal_advice(number)
-        super().__init__(f"refused {number} {place}: {self.text}")
+        # With the same arguments, as copies and pickles are made of them.
+        super().__init__(number, place)
+
+    def __str__(self) -> str:
+        return f"refused {self.number} {self.place}: {self.text}"
 
 
 class Verdict(NamedTuple):
