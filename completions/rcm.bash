@@ -1,4 +1,5 @@
-# Completion of rcm for bash: commands, their options, numbers for explain. Files are left to readline.
+# Completion of rcm for bash: commands, their options, numbers and answers for explain, texts and folders for
+# test. Other files are left to readline.
 
 _rcm_options() {
     case $1 in
@@ -22,7 +23,7 @@ _rcm() {
         previous=${COMP_WORDS[COMP_CWORD - 2]}
     fi
     if ((COMP_CWORD == 1)); then
-        words="asm dis check run pages test list explain help --help --version"
+        words="asm dis check run pages test list explain help --help --version -h -V"
     else
         case $previous in
         --budget | --arguments | --trace | --address)
@@ -35,8 +36,13 @@ _rcm() {
         if [[ $current == -* ]]; then
             words=$(_rcm_options "${COMP_WORDS[1]}")
         elif [[ ${COMP_WORDS[1]} == explain ]]; then
-            words="1 2 3 4 5 6 7 8 9 20 21 22 31 32 33 34 35 36 37 38 39"
+            words="accepted refused ended stopped running 1 2 3 4 5 6 7 8 9 20 21 22 31 32 33 34 35 36 37 38 39"
         fi
+    fi
+    if [[ ${COMP_WORDS[1]} == test && $COMP_CWORD -gt 1 && $current != -* ]]; then
+        compopt -o filenames
+        mapfile -t COMPREPLY < <(compgen -o plusdirs -f -X '!*.asm' -- "$current")
+        return 0
     fi
     mapfile -t COMPREPLY < <(compgen -W "$words" -- "$current")
 }

@@ -1,4 +1,4 @@
-# Completion of rcm for fish: commands, their options, files, numbers for explain.
+# Completion of rcm for fish: commands, their options, files, numbers and answers for explain.
 
 complete -c rcm -n __fish_use_subcommand -f -a asm -d 'the module file of a text'
 complete -c rcm -n __fish_use_subcommand -f -a dis -d 'the text of a module file'
@@ -7,10 +7,10 @@ complete -c rcm -n __fish_use_subcommand -f -a run -d 'open a module and go on w
 complete -c rcm -n __fish_use_subcommand -f -a pages -d 'the memory of a state'
 complete -c rcm -n __fish_use_subcommand -f -a test -d 'the expectations in texts'
 complete -c rcm -n __fish_use_subcommand -f -a list -d 'the list that a module makes of a form'
-complete -c rcm -n __fish_use_subcommand -f -a explain -d 'a number in plain words'
+complete -c rcm -n __fish_use_subcommand -f -a explain -d 'numbers and answers in plain words'
 complete -c rcm -n __fish_use_subcommand -f -a help -d 'the commands'
-complete -c rcm -n __fish_use_subcommand -f -l version -d 'the version'
-complete -c rcm -f -l help -d 'what it takes'
+complete -c rcm -n __fish_use_subcommand -f -s V -l version -d 'the version'
+complete -c rcm -f -s h -l help -d 'what it takes'
 
 complete -c rcm -n '__fish_seen_subcommand_from asm' -s o -r -F -d 'where the module is written'
 complete -c rcm -n '__fish_seen_subcommand_from asm' -l unchecked -d 'also what the checker would refuse'
@@ -26,4 +26,5 @@ complete -c rcm -n '__fish_seen_subcommand_from pages' -l address -x -d 'the obj
 complete -c rcm -n '__fish_seen_subcommand_from pages' -l svg -r -F -d 'a picture'
 complete -c rcm -n '__fish_seen_subcommand_from list' -l text -d 'as characters'
 complete -c rcm -n '__fish_seen_subcommand_from list' -l csv -d 'for a spreadsheet'
-complete -c rcm -n '__fish_seen_subcommand_from explain' -f -a '1 2 3 4 5 6 7 8 9 20 21 22 31 32 33 34 35 36 37 38 39'
+complete -c rcm -n '__fish_seen_subcommand_from test' -k -a '(__fish_complete_suffix .asm)' -d 'a text or a folder of texts'
+complete -c rcm -n '__fish_seen_subcommand_from explain' -f -a 'accepted refused ended stopped running 1 2 3 4 5 6 7 8 9 20 21 22 31 32 33 34 35 36 37 38 39'

@@ -1,5 +1,5 @@
 #compdef rcm
-# Completion of rcm for zsh: commands, their options, files, numbers for explain.
+# Completion of rcm for zsh: commands, their options, files, numbers and answers for explain.
 
 _rcm() {
     local context state state_descr line
@@ -13,14 +13,14 @@ _rcm() {
         'pages:the memory of a state'
         'test:the expectations in texts'
         'list:the list that a module makes of a form'
-        'explain:a number in plain words'
+        'explain:numbers and answers in plain words'
         'help:the commands'
     )
     budget=(
         '--budget=[at most so many steps]:steps:'
         '--arguments=[the arguments of function 0]:numbers with commas between them:'
     )
-    _arguments -C '(- *)--help[the commands]' '(- *)--version[the version]' '1:command:->command' '*::word:->word'
+    _arguments -C '(- *)'{-h,--help}'[the commands]' '(- *)'{-V,--version}'[the version]' '1:command:->command' '*::word:->word'
     case $state in
     command)
         _describe -t commands 'command' commands
@@ -47,14 +47,14 @@ _rcm() {
                 '--svg=[a picture]:file:_files' '--json[as JSON]' '1:module:_files' '2:state:_files'
             ;;
         test)
-            _arguments '--help[what test takes]' '*:text:_files -g "*.asm"'
+            _arguments '--help[what test takes]' '*:text or folder:_files -g "*.asm"'
             ;;
         list)
             _arguments '--help[what list takes]' $budget '(--csv --json)--text[as characters]' '(--text --json)--csv[for a spreadsheet]' \
                 '(--text --csv)--json[as JSON]' '1:module:_files' '2:form:_files'
             ;;
         explain)
-            _arguments '--help[what explain takes]' '1:number:(1 2 3 4 5 6 7 8 9 20 21 22 31 32 33 34 35 36 37 38 39)'
+            _arguments '--help[what explain takes]' '*:number or answer:(accepted refused ended stopped running 1 2 3 4 5 6 7 8 9 20 21 22 31 32 33 34 35 36 37 38 39)'
             ;;
         esac
         ;;

@@ -643,6 +643,13 @@ fn number_of(name: &str) -> u64 {
     }
 }
 
+/// The edition of the rules that the tool says it has.
+fn edition() -> u64 {
+    let (_, version, _) = rcm(&["--version"], false);
+    let number = version.split("edition ").nth(1).and_then(|rest| rest.split(' ').next());
+    number.and_then(|number| number.parse().ok()).unwrap_or_else(|| panic!("{version}"))
+}
+
 #[test]
 fn the_names_in_the_header_have_the_numbers_of_the_reference() {
     let folder = new_folder("names");
@@ -668,6 +675,8 @@ fn the_names_in_the_header_have_the_numbers_of_the_reference() {
         ("RCM_BLOCK_BYTES", reference::file::BLOCK_BYTES as u64),
         ("RCM_MODULE_MAX", (reference::file::MAX_BLOCKS * reference::file::BLOCK_BYTES) as u64),
         ("RCM_ARGUMENTS_MAX", reference::module::MAX_LIST as u64),
+        ("RCM_ARGUMENT_BYTES", size_of::<u32>() as u64),
+        ("RCM_EDITION", edition()),
         ("RCM_REFUSAL_INPUT", refused(host::open(&ranking, &[0; 4], &mut state))),
         ("RCM_REFUSAL_BUFFER", refused(host::test(&ranking, &[]))),
         ("RCM_REFUSAL_STATE", refused(host::test(&ranking, &damaged))),
@@ -835,6 +844,111 @@ fn the_accessors_say_what_the_reference_reads() {
     assert_eq!(printed.lines().collect::<Vec<_>>(), expected);
 }
 
+/// Opens a module that subtracts its seven arguments with what `rcm_put_argument` made of them, and
+/// prints these bytes and the value.
+const ARGUMENTS: &str = r#"
+#include <rcm.h>
+#include <stdio.h>
+#include <stdlib.h>
+
+static uint8_t module[RCM_MODULE_MAX], state[RCM_STATE_BYTES], output[RCM_OUTPUT_BYTES];
+
+int main(int count, char **words)
+{
+    uint64_t answer[4];
+    size_t number = (size_t)count - 2;
+    uint8_t *arguments = malloc(RCM_ARGUMENT_BYTES * number);
+    FILE *file = fopen(words[1], "rb");
+    if (file == NULL || arguments == NULL)
+        return 1;
+    size_t length = fread(module, 1, sizeof module, file);
+    fclose(file);
+    for (size_t place = number; place-- > 0;)
+        rcm_put_argument(arguments, place, (uint32_t)strtoul(words[place + 2], NULL, 10));
+    for (size_t byte = 0; byte < RCM_ARGUMENT_BYTES * number; byte++)
+        printf("%d ", arguments[byte]);
+    rcm_open(module, length, arguments, RCM_ARGUMENT_BYTES * number, state, sizeof state, answer);
+    if (answer[0] == RCM_GOOD)
+        rcm_go(module, length, arguments, 0, state, sizeof state, output, sizeof output, 100, answer);
+    printf("%u %u\n", (unsigned)answer[0], (unsigned)answer[1]);
+    free(arguments);
+    return 0;
+}
+"#;
+
+#[test]
+fn arguments_are_put_as_the_module_reads_them() {
+    let folder = new_folder("arguments");
+    let program = compile(&folder, ARGUMENTS);
+    let values: [u32; 7] = [0x0102_0304, u32::MAX, 0, 1, 0x8000_0000, 256, 0xfedc_ba98];
+    let parameters: Vec<String> = (0..values.len()).map(|at| format!("p{at}: i32")).collect();
+    let code: String = (1..values.len()).map(|at| format!(" p0 = p0 - p{at}\n")).collect();
+    let text = format!("fn main({}) -> i32 {{\n{code} return p0\n}}\n", parameters.join(", "));
+    fs::write(folder.join("module"), text::assemble(&text).expect("a module")).expect("a file");
+    let words = values.map(|value| value.to_string());
+    let words: Vec<&str> = ["module"].into_iter().chain(words.iter().map(String::as_str)).collect();
+    let bytes = values.iter().flat_map(|value| value.to_le_bytes());
+    let bytes: String = bytes.map(|byte| format!("{byte} ")).collect();
+    let value = values.into_iter().reduce(u32::wrapping_sub).expect("a value");
+    assert_eq!(run_program(&program, &words), format!("{bytes}{} {value}\n", host::ENDED));
+}
+
+/// What stands between two marks of a file of the repository.
+fn between(name: &str, before: &str, behind: &str) -> String {
+    let text = fs::read_to_string(repository().join(name)).expect("a file");
+    let rest = text.split_once(before).unwrap_or_else(|| panic!("{name} has no {before:?}")).1;
+    rest.split_once(behind).unwrap_or_else(|| panic!("{name} has no {behind:?}")).0.to_string()
+}
+
+#[test]
+fn the_version_is_the_same_everywhere() {
+    let version = between("include/rcm.h", "#define RCM_VERSION \"", "\"");
+    for (name, before, behind) in [
+        ("rust/Cargo.toml", "\nversion = \"", "\""),
+        ("man/rcm.1", " \"rcm ", "\""),
+        ("man/rcm.3", " \"rcm ", "\""),
+        ("editors/vscode/package.json", "\"version\": \"", "\""),
+        ("CHANGELOG.md", "\n## ", " - "),
+    ] {
+        assert_eq!(between(name, before, behind), version, "{name}");
+    }
+    let (_, said, _) = rcm(&["--version"], false);
+    assert!(said.starts_with(&format!("rcm {version}, ")), "{said}");
+}
+
+/// The declarations of a header in one line each, without what a manual page leaves out.
+fn declarations(header: &str) -> BTreeSet<String> {
+    let text = fs::read_to_string(repository().join("include").join(header)).expect("a header");
+    let mut found = BTreeSet::new();
+    let mut lines = text.lines();
+    while let Some(line) = lines.next() {
+        let declares = ["void rcm_", "const char *rcm_", "static inline "];
+        if declares.iter().any(|start| line.starts_with(start)) {
+            let mut whole = line.to_string();
+            while !whole.ends_with([')', ';']) {
+                whole = whole + " " + lines.next().expect("the end of a declaration").trim();
+            }
+            found.insert(whole.replace("static inline ", "").trim_end_matches(';').to_string());
+        }
+    }
+    found
+}
+
+#[test]
+fn the_manual_has_the_declarations_of_the_headers() {
+    need("groff");
+    let page = bash(&repository(), "groff -man -Tascii -P-cbou man/rcm.3");
+    let synopsis = page.split_once("SYNOPSIS").and_then(|(_, rest)| rest.split_once("DESCRIPTION"));
+    let lines = synopsis.expect("a synopsis").0.lines().filter(|line| !line.contains("#include"));
+    let words: Vec<&str> = lines.flat_map(str::split_whitespace).collect();
+    let words = words.join(" ");
+    let shown = words.split(';').map(|one| one.trim().to_string()).filter(|one| !one.is_empty());
+    let declared: BTreeSet<String> =
+        ["rcm.h", "rcm_text.h"].iter().flat_map(|header| declarations(header)).collect();
+    assert_eq!(shown.collect::<BTreeSet<_>>(), declared);
+    assert_eq!(declared.len(), 15);
+}
+
 /// The words of a text that are options.
 fn options_of(text: &str) -> BTreeSet<String> {
     let words = text.split(|next: char| !(next.is_ascii_alphanumeric() || next == '-'));
@@ -875,10 +989,41 @@ fn the_manual_and_the_completions_have_every_command_and_option() {
             assert!(text.contains(word.as_str()), "{name} lacks {word}");
         }
     }
-    for (command, options) in commands {
+    for (command, options) in &commands {
         let offered = options_of(&offered(&format!("rcm {command} --")));
         assert!(options.is_subset(&offered), "{command}: {options:?}, offered: {offered:?}");
+        // The command's section has its options, and speaks of no other.
+        let section = between("man/rcm.1", &format!(".SS {command} \\- "), "\n.S");
+        assert_eq!(options_of(&section.replace("\\-", "-")), *options, "man/rcm.1, {command}");
     }
+    let mut expected: BTreeSet<&str> = commands.keys().map(String::as_str).collect();
+    expected.insert("help");
+    let listed = between("completions/rcm.zsh", "commands=(\n", "    )\n");
+    let listed = listed.lines().map(|line| line.trim().trim_matches('\'').split(':').next());
+    assert_eq!(listed.map(Option::unwrap_or_default).collect::<BTreeSet<_>>(), expected);
+    let fish = fs::read_to_string(repository().join("completions/rcm.fish")).expect("a file");
+    let listed = fish.lines().filter(|line| line.contains("__fish_use_subcommand"));
+    let listed = listed.filter_map(|line| line.split(" -a ").nth(1)?.split(' ').next());
+    assert_eq!(listed.collect::<BTreeSet<_>>(), expected);
+    let listed = offered("rcm ''");
+    let listed = listed.split(' ').filter(|word| !word.starts_with('-'));
+    assert_eq!(listed.collect::<BTreeSet<_>>(), expected);
+}
+
+/// The numbers of a text.
+fn numbers_in(text: &str) -> BTreeSet<u64> {
+    text.split(|next: char| !next.is_ascii_digit()).filter_map(|word| word.parse().ok()).collect()
+}
+
+#[test]
+fn the_manual_has_every_exit_status() {
+    let table = between("docs/TOOL.md", "| exit status | means |\n|---|---|\n", "\n\n");
+    let rows = table.lines().filter_map(|row| row.split('|').nth(1));
+    let section = between("man/rcm.1", "\n.SH EXIT STATUS\n", "\n.SH ");
+    let heads = section.split(".TP\n").filter_map(|entry| entry.lines().next());
+    let statuses: BTreeSet<u64> = rows.flat_map(numbers_in).collect();
+    assert!(statuses.len() >= 7, "{statuses:?}");
+    assert_eq!(heads.flat_map(numbers_in).collect::<BTreeSet<_>>(), statuses);
 }
 
 #[test]
@@ -919,13 +1064,22 @@ fn completion_in_bash_offers_what_fits() {
         ("rcm run module form --budget 1", ""),
         ("rcm run module form --output = fi", ""),
         ("rcm explain 3", "3 31 32 33 34 35 36 37 38 39"),
+        ("rcm explain r", "refused running"),
+        ("rcm test exam", "examples"),
+        ("rcm test examples/st", "examples/stops"),
+        ("rcm test examples/ranking", "examples/ranking.asm"),
+        ("rcm test --", "--help"),
+        ("rcm -", "--help --version -h -V"),
         ("rcm list module form --c", "--csv"),
     ] {
         assert_eq!(offered(words), expected, "{words}");
     }
     for shell in ["zsh", "fish"] {
+        // These shells are on few machines.
         if has(shell) {
             bash(&repository(), &format!("{shell} -n completions/rcm.{shell}"));
+        } else {
+            eprintln!("install: {shell} is missing, and the form of its completion is not tested");
         }
     }
 }
