@@ -1,5 +1,5 @@
-"""Tests of the module rcm. The folder that RCM_TEST_FILES names holds the modules `ranking`, `stops` (stop 33) and `sum` (adds its two
-arguments), and the form `form` of the ranking."""
+"""Tests of the module rcm. The folder that RCM_TEST_FILES names holds the modules `ranking`, `stops` (stop 33), `sum` (adds its two
+arguments) and `count` (takes millions of steps), and the form `form` of the ranking."""
 
 import copy
 import os
@@ -14,6 +14,7 @@ FILES = pathlib.Path(os.environ["RCM_TEST_FILES"])
 RANKING = (FILES / "ranking").read_bytes()
 STOPS = (FILES / "stops").read_bytes()
 SUM = (FILES / "sum").read_bytes()
+COUNT = (FILES / "count").read_bytes()
 FORM = (FILES / "form").read_bytes()
 LIST = b"bedacf"
 
@@ -121,15 +122,16 @@ class Running(unittest.TestCase):
         self.assertEqual(outputs, [LIST] * 8)
 
     def test_one_run_in_two_threads(self):
-        # Every step is made once, by whichever thread; the one that comes too late is refused.
-        run = rcm.Module(RANKING).open()
+        # Every step is made once, by whichever thread; one that comes too late is refused.
+        module = rcm.Module(COUNT)
+        whole = module.open().go(budget=2**32)
+        run = module.open()
         steps, refused = [], []
 
         def share():
             try:
                 while run.status == "running":
-                    steps.append(run.go(FORM, budget=1).steps)
-                    self.assertTrue(LIST.startswith(run.output))
+                    steps.append(run.go(budget=whole.steps // 10).steps)
             except rcm.Refused as late:
                 refused.append(late.number)
 
@@ -138,7 +140,7 @@ class Running(unittest.TestCase):
             thread.start()
         for thread in threads:
             thread.join()
-        self.assertEqual((sum(steps), run.result, run.output), (335, 6, LIST))
+        self.assertEqual((sum(steps), run.status, run.result), (whole.steps, "ended", whole.value))
         self.assertLessEqual(set(refused), {22})
 
 

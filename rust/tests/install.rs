@@ -558,10 +558,12 @@ fn the_python_module_passes_its_tests() {
     let modules = format!("PYTHONDIR={}", folder.join("rcm/lib/python3/site-packages").display());
     finished("install", &make(&folder, &["install", &prefix, &modules]));
     let sum = "fn sum(a: i32, b: i32) -> i32 {\n a = a + b\n return a\n}\n";
+    let count = "fn count() -> i32 {\n reg n: i32\nagain:\n n = n + 1\n if n < 5000000 goto again\n return n\n}\n";
     for (name, bytes) in [
         ("ranking", example("ranking.asm")),
         ("stops", example("stops/33-index.asm")),
         ("sum", text::assemble(sum).expect("a module")),
+        ("count", text::assemble(count).expect("a module")),
         ("form", FORM.to_vec()),
     ] {
         fs::write(folder.join(name), bytes).expect("a file");
