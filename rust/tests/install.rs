@@ -282,6 +282,20 @@ fn install_only_reads_the_build_and_sets_the_modes() {
     }
 }
 
+/// A folder that cannot be made is found before the first file is put.
+#[test]
+fn a_place_that_cannot_be_written_is_refused_before_the_first_file() {
+    let folder = new_folder("install-place");
+    let stage = folder.join("stage");
+    fs::create_dir_all(stage.join("usr")).expect("a folder");
+    fs::write(stage.join("usr/share"), "a file").expect("a file");
+    let output = make_with(&folder, "install", &staged(&folder), &[]);
+    let error = lossy(&output.stderr);
+    let message = "expected a folder that can be written to";
+    assert!(!output.status.success() && error.contains(message), "{error}");
+    assert_eq!(files(&stage), BTreeSet::from(["usr/share".to_string()]));
+}
+
 /// An archive that is not the library's is refused before anything is installed.
 #[test]
 fn an_archive_without_the_functions_is_refused() {
