@@ -535,7 +535,7 @@ fn the_page_for_hosts_does_what_it_says() {
     let printed = lossy(&shell.stdout)
         .replace(&build.display().to_string(), "target/install")
         .replace(&library().display().to_string(), "target/staticlib/librcm.a")
-        .replace(&home.display().to_string(), "/home/ada");
+        .replace(&home.display().to_string(), "/srv/ada");
     let printed: Vec<&str> =
         printed.split(&format!("{MARK}\n")).skip(1).map(str::trim_end).collect();
     assert_eq!(printed.len(), commands.len(), "{printed:?}");
