@@ -217,7 +217,7 @@ fn folders_are_walked_in_order_and_one_failure_stops_nothing() {
     assert_eq!(ran.out, "1 file, 1 expectation, 0 differ\n");
     assert!(ran.error.contains("\r0 of 1 files\r"), "{:?}", ran.error);
     for (line, message) in [
-        ("test", "wanted: FILE.asm; 0 files given\nusage: rcm test FILE.asm.."),
+        ("test", "wanted: FILE.asm; 0 files given\nusage: rcm test FILE.asm | FOLDER .."),
         ("test @absent", "absent: No such file"),
         ("test @texts @absent", "absent: No such file"),
         ("test @empty", "empty: expected texts (*.asm) in this folder, found none"),

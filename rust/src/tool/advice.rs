@@ -48,8 +48,7 @@ const ANSWERS: [(&str, &str, &str); 5] = [
 ];
 
 fn explain(words: &Words, session: &mut Session) -> Outcome {
-    // Without a word everything is listed.
-    let asked = words.some("NUMBER").unwrap_or_default();
+    let asked = words.any();
     if asked.is_empty() {
         return print(session.out, &listed());
     }

@@ -1,5 +1,6 @@
 //! `rcm list`: runs a module from its opening and prints its list, marked where it is partial.
 
+use super::explain::stop_title;
 use super::files::distinct;
 use super::going::{argument_bytes, refused, Going, Went, ARGUMENTS, BUDGET, DEFAULT_BUDGET};
 use super::json::Json;
@@ -96,13 +97,9 @@ fn mark(went: &Went) -> Option<String> {
     let [kind, number, steps, _] = went.answer;
     match kind {
         host::ENDED => None,
-        host::STOPPED => Some(format!("stopped {number} ({})", meaning(number))),
+        host::STOPPED => Some(format!("stopped {number} ({})", stop_title(number))),
         _ => Some(format!("running after {}", counted(steps, "step"))),
     }
-}
-
-fn meaning(stop: u64) -> &'static str {
-    numbers::stop(stop).map_or("", |stop| stop.meaning)
 }
 
 fn text(went: &Went, list: &[u8], shape: Shape) -> String {
@@ -139,7 +136,7 @@ fn json(went: &Went, list: &[u8]) -> Json {
         host::STOPPED => vec![
             ("answer", Json::text("stopped")),
             ("number", Json::Number(value)),
-            ("meaning", Json::text(meaning(value))),
+            ("meaning", Json::text(stop_title(value))),
         ],
         _ => vec![("answer", Json::text("running"))],
     };

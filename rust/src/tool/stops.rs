@@ -5,12 +5,10 @@ use super::heap::Heap;
 use super::json::Json;
 use super::standing::Standing;
 use super::{counted, numbers};
+use crate::builder::code;
 use crate::module::{Module, Term};
 use crate::state::{State, MEMORY_BYTES, PAGES, PAGE_BYTES};
 use crate::text::{Listing, Names, Scope, Source};
-
-/// The operation of kind 18 whose operands have a sign: the quotient to the nearest.
-const NEAREST: u32 = 10;
 
 /// A stop: what its number means, where and why, and what to do next.
 pub struct Stopped<'m> {
@@ -88,7 +86,7 @@ fn reason(at: &Standing, state: &State, form_length: usize, number: u64) -> Opti
         (33, _) => format!("{}, the array has {}", at.register(c), array_count(at, b)?),
         (34, _) => pages_owned(at, state, a)?,
         (35, _) => format!("{} are in use", counted(state.frames.len() as u64, "frame")),
-        (36, _) => operands(at, at.instruction.d == NEAREST),
+        (36, _) => operands(at, at.instruction.d == code::SIGNED_QUOTIENT),
         (37, _) => {
             let written = type_of(at, b);
             let bits = written.trim_start_matches('i').to_string();

@@ -6,7 +6,7 @@ use super::json::Json;
 use super::maps::usable_map;
 use super::words::Choice;
 use super::{counted, print, Command, Outcome, Session, Words, DONE, REFUSED};
-use crate::host::{self, Answer};
+use crate::host::{self, Answer, FUNCTIONS_UNIT};
 
 pub const CHECK: Command = Command {
     name: "check",
@@ -36,7 +36,7 @@ fn check(words: &Words, session: &mut Session) -> Outcome {
 
 fn accepted(answer: Answer, json: bool) -> String {
     let [_, terms, names, rest] = answer;
-    let (functions, instructions) = (rest >> 16, rest & 0xffff);
+    let (functions, instructions) = (rest / FUNCTIONS_UNIT, rest % FUNCTIONS_UNIT);
     let counts = [
         (terms, "type", "types"),
         (names, "struct", "structs"),

@@ -102,11 +102,16 @@ impl<'w> Words<'w> {
         }
     }
 
+    /// All words that stand alone.
+    pub fn any(&self) -> &[&'w str] {
+        &self.plain
+    }
+
     /// One or more words that stand alone.
     pub fn some(&self, wanted: &str) -> Result<&[&'w str], String> {
-        match self.plain[..] {
+        match self.any() {
             [] => self.wrong(&format!("wanted: {wanted}; {}", self.given())),
-            _ => Ok(&self.plain),
+            words => Ok(words),
         }
     }
 
