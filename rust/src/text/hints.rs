@@ -37,9 +37,14 @@ pub fn of_type(word: &str) -> String {
     }
 }
 
+/// A word that begins a type, here or in C.
+pub fn is_type(word: &str) -> bool {
+    integer(word).is_some() || DECLARING.contains(&word)
+}
+
 /// A word at the beginning of an item.
 pub fn of_item(word: &str) -> &'static str {
-    if integer(word).is_some() || DECLARING.contains(&word) {
+    if is_type(word) {
         return "a function is written `fn name(a: i32) -> i32 {`";
     }
     ""
@@ -54,9 +59,7 @@ pub fn of_line(word: &str) -> &'static str {
         "else" | "switch" | "case" | "default" => {
             "a choice is `if a == b goto label` and `goto label`"
         }
-        _ if integer(word).is_some() || DECLARING.contains(&word) => {
-            "a register is declared in a line of its own: `reg a: i32`"
-        }
+        _ if is_type(word) => "a register is declared in a line of its own: `reg a: i32`",
         _ => "",
     }
 }
@@ -97,15 +100,39 @@ pub fn of_sign(sign: &str) -> &'static str {
     }
 }
 
+/// Digits behind a zero, which C would read to the base 8.
+pub fn of_octal(digits: &str) -> String {
+    let decimal = match digits.trim_start_matches('0') {
+        "" => "0",
+        decimal => decimal,
+    };
+    match u32::from_str_radix(digits, 8) {
+        Ok(octal) if octal.to_string() != decimal => {
+            format!("there are no octal numbers: write {octal} or {decimal}")
+        }
+        _ => format!("there are no octal numbers: write {decimal}"),
+    }
+}
+
 /// What follows a whole instruction in its line.
 pub fn behind(sign: &str) -> &'static str {
     match of_sign(sign) {
+        _ if sign == ":" => "a label has its `:` only where it stands: `goto label`",
         "" => "one line does one thing: put the value into a register first",
         hint => hint,
     }
 }
 
+pub const NUMBER: &str =
+    "a number is written 42, 1_000, 0x2a, 'a' or -1; it has no suffix, no point and no exponent";
 pub const TYPED: &str = "a name stands before its type: `a: i32`";
+pub const NEGATIVE: &str = "`-b` is written `0 - b`";
+pub const EQUAL: &str = "equal is written `==`: `if a == b goto label`";
+pub const COMPARISON: &str = "`c = a == b` puts 0 or 1 into an i8, `if a == b goto label` branches";
+pub const NEW: &str = "`p = new` makes an object of the type of p's region";
+pub const OUTPUT_FORM: &str = "a byte is written without brackets: `output b`";
+pub const REGIONS: &str = "the regions of a call stand in square brackets: `a = f[r](b)`";
+pub const PART: &str = "point to a field or an element first: `q = p.x` or `q = p[i]`";
 pub const COMMENT: &str = "a comment goes from `#` to the end of the line";
 pub const CONDITION: &str = "a condition has no brackets: `if a < b goto label`";
 pub const CALL: &str = "a call's value goes into a register: `a = f(b)`";

@@ -1,6 +1,6 @@
 //! The words, numbers and signs of a text, each with its line and columns.
 
-use super::error::Error;
+use super::error::{unseen, Error};
 use super::hints;
 use std::fmt;
 
@@ -100,8 +100,15 @@ impl<'t> Lexer<'t> {
             return Ok(Token::Word(word.to_string()));
         }
         if first.is_ascii_digit() {
-            let digits = self.take_while(|next| next.is_ascii_alphanumeric() || next == '_');
-            return number(digits, self.since(place));
+            let whole = self.rest;
+            let word = |next: char| next.is_ascii_alphanumeric() || next == '_';
+            let mut length = self.take_while(word).len();
+            // A fraction is no number, and is said as a whole.
+            if matches!(self.rest.as_bytes(), [b'.', b'0'..=b'9', ..]) {
+                self.take(1);
+                length += 1 + self.take_while(word).len();
+            }
+            return number(&whole[..length], self.since(place));
         }
         if first == '\'' {
             return self.character();
@@ -113,28 +120,40 @@ impl<'t> Lexer<'t> {
             }
             None => {
                 let sign = self.take(first.len_utf8());
-                let error = Error::new(self.since(place), format!("`{sign}` has no meaning here"));
+                let shown = match unseen(first) {
+                    true => format!("U+{:04X}", u32::from(first)),
+                    false => format!("`{sign}`"),
+                };
+                let error = Error::new(self.since(place), format!("{shown} has no meaning here"));
                 Err(error.hinting(hints::of_sign(sign)))
             }
         }
     }
 
-    /// A character of one byte between quotes is its number.
+    /// A character of one byte between quotes is its number; `\n`, `\0` and `\x41` are as in C.
     fn character(&mut self) -> Result<Token, Error> {
         let place = self.place;
-        match self.rest.as_bytes() {
-            [b'\'', byte @ b' '..=b'~', b'\'', ..] => {
-                self.take(3);
-                Ok(Token::Number(u32::from(*byte)))
+        let (length, byte) = match self.rest.as_bytes() {
+            [b'\'', byte @ b' '..=b'~', b'\'', ..] => (3, *byte),
+            [b'\'', b'\\', b'n', b'\'', ..] => (4, b'\n'),
+            [b'\'', b'\\', b'0', b'\'', ..] => (4, 0),
+            [b'\'', b'\\', b'x', high, low, b'\'', ..]
+                if high.is_ascii_hexdigit() && low.is_ascii_hexdigit() =>
+            {
+                let digit = |digit: u8| char::from(digit).to_digit(16).unwrap_or_default() as u8;
+                (6, 16 * digit(*high) + digit(*low))
             }
             _ => {
                 self.take(1);
                 self.take_while(|next| next != '\'' && next != '\n');
                 self.take(usize::from(self.rest.starts_with('\'')));
-                let message = "expected one character between quotes, as in 'a'";
-                Error::at(self.since(place), message)
+                let message = "expected one character between quotes, as in 'a', '\\n', '\\0' or \
+                               '\\x41'";
+                return Error::at(self.since(place), message);
             }
-        }
+        };
+        self.take(length);
+        Ok(Token::Number(u32::from(byte)))
     }
 
     /// Takes blanks and comments. Comments as C writes them are errors, but hide no others.
@@ -171,16 +190,22 @@ impl<'t> Lexer<'t> {
     }
 }
 
-/// A decimal number, or one to the base 16 after `0x`; `_` may stand between digits.
+/// A decimal number, or one to the base 16 after `0x` or `0X`; `_` may stand between digits.
 fn number(digits: &str, span: Span) -> Result<Token, Error> {
     let plain = digits.replace('_', "");
-    let parsed = match plain.strip_prefix("0x") {
-        Some(hex) => u64::from_str_radix(hex, 16),
-        None => plain.parse(),
-    };
-    match parsed.map(u32::try_from) {
-        Ok(Ok(number)) => Ok(Token::Number(number)),
-        _ => Error::at(span, format!("expected a number below 4294967296, found `{digits}`")),
+    let hex = plain.strip_prefix("0x").or(plain.strip_prefix("0X"));
+    let (written, base) = hex.map_or((plain.as_str(), 10), |hex| (hex, 16));
+    if written.is_empty() || !written.chars().all(|digit| digit.is_digit(base)) {
+        let message = format!("expected a number, found `{digits}`");
+        return Err(Error::new(span, message).hinting(hints::NUMBER));
+    }
+    if base == 10 && written.len() > 1 && written.starts_with('0') {
+        let message = format!("expected a number without zeros before it, found `{digits}`");
+        return Err(Error::new(span, message).hinting(hints::of_octal(written)));
+    }
+    match u32::from_str_radix(written, base) {
+        Ok(number) => Ok(Token::Number(number)),
+        Err(_) => Error::at(span, format!("expected a number below 4294967296, found `{digits}`")),
     }
 }
 

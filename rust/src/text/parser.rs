@@ -103,7 +103,9 @@ impl Parser {
     fn skip_to_item(&mut self) {
         while *self.peek() != Token::End {
             let begins_line = self.at == 0 || self.tokens[self.at - 1].0 == Token::Line;
-            if begins_line && (self.begins_item() || self.is_word("raw")) {
+            if begins_line
+                && (self.begins_item() || self.is_word("raw") || self.begins_c_function())
+            {
                 return;
             }
             self.advance();
@@ -116,9 +118,20 @@ impl Parser {
 
     /// An item begins here, and no line of code.
     fn begins_item(&self) -> bool {
-        let structure =
-            self.is_word("struct") && matches!(self.peek_behind(2), Token::Sign("{" | "("));
+        let structure = self.is_word("struct")
+            && matches!(self.peek_behind(2), Token::Sign("{" | "(") | Token::Line);
         structure || ["type", "fn", "file"].into_iter().any(|word| self.is_word(word))
+    }
+
+    /// A function begins here as C writes it: words of a type, a name and an opening bracket.
+    fn begins_c_function(&self) -> bool {
+        let Token::Word(first) = self.peek() else {
+            return false;
+        };
+        let rest = self.tokens[self.at + 1..].iter().map(|(token, _)| token);
+        let mut rest = rest.skip_while(|token| matches!(token, Token::Word(_) | Token::Sign("*")));
+        let named = rest.next() == Some(&Token::Sign("("));
+        named && !hints::of_item(first).is_empty() && *self.peek_behind(1) != Token::Sign("(")
     }
 
     /// Takes a sign or keyword if it stands here.
@@ -141,13 +154,34 @@ impl Parser {
         self.expected(&format!("`{text}`"))
     }
 
-    /// A semicolon before the end is an error that hides no others.
-    fn end_of_line(&mut self) -> Result<(), Error> {
+    /// The same with a hint for what may stand there in its place.
+    fn expect_or(&mut self, text: &str, hint: &str) -> Result<(), Error> {
+        self.expect(text).map_err(|error| match self.peek() {
+            Token::Sign(_) | Token::Word(_) if error.hint.is_empty() => error.hinting(hint),
+            _ => error,
+        })
+    }
+
+    /// A semicolon is an error that hides no others.
+    fn skip_semicolon(&mut self) {
         if *self.peek() == Token::Sign(";") {
             let error = self.expected_error("the end of the line");
             self.errors.push(error.hinting(hints::of_sign(";")));
             self.advance();
         }
+    }
+
+    /// Goes to a brace that opens in a later line.
+    fn skip_lines_to_brace(&mut self) {
+        let lines = self.tokens[self.at..].iter();
+        let lines = lines.take_while(|(token, _)| *token == Token::Line).count();
+        if *self.peek_behind(lines) == Token::Sign("{") {
+            self.at += lines;
+        }
+    }
+
+    fn end_of_line(&mut self) -> Result<(), Error> {
+        self.skip_semicolon();
         match self.peek() {
             Token::Line => self.advance(),
             Token::End | Token::Sign("}") => (),
@@ -265,9 +299,46 @@ impl Parser {
         self.written_type()
     }
 
+    /// A name before its type. C has the type first.
+    fn typed_name(&mut self, what: &str) -> Result<Name, Error> {
+        self.name(what).map_err(|error| match (self.peek(), self.peek_behind(1)) {
+            (Token::Word(_), Token::Word(_) | Token::Sign("*")) => error.hinting(hints::TYPED),
+            _ => error,
+        })
+    }
+
     fn typed(&mut self, what: &str) -> Result<Typed, Error> {
-        let name = self.name(what)?;
+        let name = self.typed_name(what)?;
         Ok(Typed { name, written: self.type_of_name()? })
+    }
+
+    /// Names with types between brackets. One that cannot be read is an error and has no known type
+    /// if its name is seen: before a colon, or last, as C writes it.
+    fn typed_list(&mut self, close: &str, what: &str) -> Result<Vec<Typed>, Error> {
+        self.list(close, |parser| {
+            let first = parser.at;
+            parser.typed(what).or_else(|error| {
+                let ends = |token: &Token| {
+                    let sign = matches!(token, Token::Sign("," | ")" | "]" | "{"));
+                    sign || matches!(token, Token::Line | Token::End)
+                };
+                while !ends(parser.peek()) {
+                    parser.advance();
+                }
+                let written = &parser.tokens[first..parser.at];
+                let named = match written {
+                    [name, (Token::Sign(":"), _), ..] => name,
+                    [_, .., name] => name,
+                    _ => return Err(error),
+                };
+                let (Token::Word(text), span) = named.clone() else {
+                    return Err(error);
+                };
+                parser.errors.push(error);
+                let written = Type { form: TypeForm::Unknown, span };
+                Ok(Typed { name: Name { text, span }, written })
+            })
+        })
     }
 
     fn item(&mut self) -> Result<Item, Error> {
@@ -290,12 +361,23 @@ impl Parser {
             let span = self.since(first);
             self.end_of_line()?;
             Ok(Item::File(line, span))
+        } else if self.begins_c_function() {
+            let error = self.no_item();
+            self.errors.push(error);
+            while *self.peek_behind(1) != Token::Sign("(") {
+                self.advance();
+            }
+            self.function()
         } else {
-            let error = self.expected_error("`type`, `struct`, `fn`, `raw` or `file`");
-            Err(match self.peek() {
-                Token::Word(word) => error.hinting(hints::of_item(word)),
-                _ => error,
-            })
+            Err(self.no_item())
+        }
+    }
+
+    fn no_item(&self) -> Error {
+        let error = self.expected_error("`type`, `struct`, `fn`, `raw` or `file`");
+        match self.peek() {
+            Token::Word(word) => error.hinting(hints::of_item(word)),
+            _ => error,
         }
     }
 
@@ -338,6 +420,7 @@ impl Parser {
         } else {
             Vec::new()
         };
+        self.skip_lines_to_brace();
         self.expect("{")?;
         Ok(regions)
     }
@@ -348,6 +431,7 @@ impl Parser {
         loop {
             self.skip_lines();
             if self.takes("}") {
+                self.skip_semicolon();
                 return fields;
             }
             if *self.peek() == Token::End || self.begins_item() {
@@ -383,6 +467,7 @@ impl Parser {
             Err(error) => {
                 self.errors.push(error);
                 self.skip_line_up_to_brace();
+                self.skip_lines_to_brace();
                 if !self.takes("{") {
                     self.skip_to_item();
                     return Ok(Item::UnknownFunction(name));
@@ -410,18 +495,28 @@ impl Parser {
     /// Region parameters, parameters and result, up to the opening brace.
     fn head(&mut self) -> Result<(Vec<Typed>, Vec<Typed>, Type), Error> {
         let regions = if self.takes("[") {
-            self.list("]", |parser| parser.typed("a region parameter's name"))?
+            self.typed_list("]", "a region parameter's name")?
         } else {
             Vec::new()
         };
         self.expect("(")?;
-        let registers = self.list(")", |parser| parser.typed("a parameter's name"))?;
+        let registers = self.typed_list(")", "a parameter's name")?;
+        let span = self.span();
+        let return_type = self.result().unwrap_or_else(|error| {
+            self.errors.push(error);
+            self.skip_line_up_to_brace();
+            Type { form: TypeForm::Unknown, span }
+        });
+        self.skip_lines_to_brace();
+        self.expect("{")?;
+        Ok((regions, registers, return_type))
+    }
+
+    fn result(&mut self) -> Result<Type, Error> {
         if !self.takes("->") {
             return Err(self.expected_error("`->`").hinting(hints::RESULT));
         }
-        let return_type = self.written_type()?;
-        self.expect("{")?;
-        Ok((regions, registers, return_type))
+        self.written_type()
     }
 
     fn skip_line_up_to_brace(&mut self) {
@@ -437,8 +532,10 @@ impl Parser {
         loop {
             self.skip_lines();
             function.end = self.span();
+            let first = self.at;
             if self.takes("}") {
                 if open == 0 {
+                    self.skip_semicolon();
                     return;
                 }
                 open += self.skip_line();
@@ -448,22 +545,40 @@ impl Parser {
                 return;
             } else if let Err(error) = self.body_line(function) {
                 self.errors.push(error);
+                function.registers.extend(self.declared_as_in_c(first, &function.registers));
                 function.code.push(Line::Unknown);
                 open += self.skip_line();
             }
         }
     }
 
+    /// The register of a line that declares it as C does: words of a type before a name.
+    fn declared_as_in_c(&self, first: usize, known: &[Typed]) -> Option<Typed> {
+        let line = self.tokens[first..].iter();
+        let line = line.skip(usize::from(self.tokens[first].0 == Token::Word("reg".to_string())));
+        let words =
+            line.take_while(|(token, _)| matches!(token, Token::Word(_) | Token::Sign("*")));
+        let words: Vec<&(Token, Span)> = words.collect();
+        let [(Token::Word(first), _), .., (Token::Word(text), span)] = words[..] else {
+            return None;
+        };
+        let new = known.iter().all(|one| one.name.text != *text);
+        (new && hints::is_type(first) && !KEYWORDS.contains(&text.as_str())).then(|| Typed {
+            name: Name { text: text.clone(), span: *span },
+            written: Type { form: TypeForm::Unknown, span: *span },
+        })
+    }
+
     fn body_line(&mut self, function: &mut Function) -> Result<(), Error> {
         if self.takes("region") {
-            let name = self.name("the region's name")?;
+            let name = self.typed_name("the region's name")?;
             self.declare(vec![name], &mut function.regions)?;
             return self.end_of_line();
         }
         if self.takes("reg") {
-            let mut names = vec![self.name("the register's name")?];
+            let mut names = vec![self.typed_name("the register's name")?];
             while self.takes(",") {
-                names.push(self.name("a register's name")?);
+                names.push(self.typed_name("a register's name")?);
             }
             self.declare(names, &mut function.registers)?;
             return self.end_of_line();
@@ -516,7 +631,10 @@ impl Parser {
         if !negative && !matches!(self.peek(), Token::Number(_)) {
             return Ok(None);
         }
-        let value = self.number("a number", u32::MAX)?;
+        let value = self.number("a number", u32::MAX).map_err(|error| match self.peek() {
+            Token::Word(_) => error.hinting(hints::NEGATIVE),
+            _ => error,
+        })?;
         Ok(Some(Number { value, negative, span: self.since(first) }))
     }
 
@@ -530,14 +648,18 @@ impl Parser {
     fn statement(&mut self) -> Result<Statement, Error> {
         if self.takes("*") {
             let a = self.register()?;
-            self.expect("=")?;
+            self.expect_or("=", hints::STORE)?;
             return Ok(Statement::Store { a, value: self.value()? });
         }
         if self.takes("free") {
             return Ok(plain(28, Some(self.register()?), None, None, 0));
         }
         if self.takes("output") {
-            return Ok(Statement::Output { value: self.value()? });
+            let value = self.value().map_err(|error| match self.peek() {
+                Token::Sign("(") => error.hinting(hints::OUTPUT_FORM),
+                _ => error,
+            });
+            return Ok(Statement::Output { value: value? });
         }
         if self.takes("return") {
             let value = self.value().map_err(|error| match self.peek() {
@@ -577,6 +699,9 @@ impl Parser {
         match self.peek() {
             Token::Sign("(") => error.hinting(hints::CALL),
             Token::Sign("." | "[" | "->") => error.hinting(hints::STORE),
+            Token::Sign(sign) if operator(sign).is_some_and(Operator::compares) => {
+                error.hinting(hints::COMPARISON)
+            }
             _ => error,
         }
     }
@@ -597,6 +722,9 @@ impl Parser {
             Some(operator) => Some((operator, self.value()?)),
             None => None,
         };
+        if *self.peek() == Token::Sign("=") {
+            return Err(self.expected_error("a comparison or `goto`").hinting(hints::EQUAL));
+        }
         self.expect("goto")?;
         let target = self.reference("a label")?;
         Ok(match compared {
@@ -614,9 +742,18 @@ impl Parser {
             };
         }
         if self.takes("*") {
-            return Ok(plain(25, Some(a), Some(self.register()?), None, 0));
+            let pointer = self.register()?;
+            if matches!(self.peek(), Token::Sign("." | "[" | "->")) {
+                return Err(self
+                    .expected_error("the end of the line")
+                    .hinting(hints::of_sign("->")));
+            }
+            return Ok(plain(25, Some(a), Some(pointer), None, 0));
         }
         if self.takes("new") {
+            if matches!(self.peek(), Token::Word(_) | Token::Sign("(" | "*")) {
+                return Err(self.expected_error("the end of the line").hinting(hints::NEW));
+            }
             return Ok(plain(27, Some(a), None, None, 0));
         }
         if self.takes("field") {
@@ -627,7 +764,7 @@ impl Parser {
         if self.takes("form") {
             self.expect("[")?;
             let place = self.value()?;
-            self.expect("]")?;
+            self.expect_or("]", hints::behind(""))?;
             return Ok(Statement::Form { a, place });
         }
         if self.takes("check") {
@@ -639,7 +776,15 @@ impl Parser {
             }
         }
         if !self.is_name() {
-            return self.expected("a value: a register, a number, `*`, `new`, `form`, ..");
+            let error =
+                self.expected_error("a value: a register, a number, `*`, `new`, `form`, ..");
+            return Err(match (self.peek(), self.peek_behind(1)) {
+                (Token::Sign("("), Token::Word(word)) if hints::is_type(word) => {
+                    error.hinting(hints::WIDTHS)
+                }
+                (Token::Sign("("), _) => error.hinting(hints::behind("")),
+                _ => error,
+            });
         }
         let b = self.name("a register or a function")?;
         self.after_name(a, b)
@@ -658,7 +803,7 @@ impl Parser {
             Token::Sign("[") => {
                 self.advance();
                 let c = self.name("a register or an element's number")?;
-                self.expect("]")?;
+                self.expect_or("]", hints::behind(""))?;
                 Ok(plain(24, Some(a), Some(b), Some(c), 0))
             }
             Token::Sign(sign) if sign != "}" && sign != ";" => {
