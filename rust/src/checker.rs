@@ -4,6 +4,7 @@
 use crate::file::Refusal;
 use crate::module::{decode, Function, Instruction, Module, Term, FIRST_CODE_KIND, KIND_CALL};
 use crate::types::{regions_used, sizes, Type, TypeId, Types, Variable, IDENTITY, MAX_SIZE};
+use std::collections::HashSet;
 
 const I8: u8 = 1;
 const I32: u8 = 4;
@@ -11,11 +12,11 @@ const I32: u8 = 4;
 /// An accepted module, or the first broken rule.
 pub fn check(file: &[u8]) -> Result<Module, Refusal> {
     let module = decode(file)?;
-    let every = |_: &Instruction| true;
+    let every = |_: &Function, _: &Instruction| true;
     let fault = size_faults(&module)
         .next()
         .or_else(|| function_faults(&module).next().map(|(_, refusal)| refusal))
-        .or_else(|| typing_faults(&module, &module.functions, every, 1).pop())
+        .or_else(|| typing_faults(&module, every, 1).pop())
         .or_else(|| end_faults(&module).next());
     match fault {
         Some(refusal) => Err(refusal),
@@ -33,29 +34,99 @@ pub enum Part {
 }
 
 /// Every broken rule in the order of the checker, with the part of the function it is about. Code is
-/// asked as far as its types are sound: none where a type has no size, no function whose types name
-/// regions that it lacks, and no call of a function that breaks a rule itself.
+/// asked as far as its types are sound: no instruction with a register whose type breaks a rule or
+/// names a region that its function lacks, and no call of a function that breaks a rule itself.
 pub fn faults(module: &Module) -> Vec<(Part, Refusal)> {
     let mut faults: Vec<(Part, Refusal)> =
         size_faults(module).map(|refusal| (Part::Head, refusal)).collect();
-    let sized = faults.is_empty();
+    let sound = Sound::new(module, faults.iter().map(|(_, refusal)| refusal.place).collect());
     faults.extend(function_faults(module));
-    if sized {
-        let unsound: Vec<usize> = faults.iter().map(|(_, refusal)| refusal.place).collect();
-        let callable = |call: &Instruction| {
-            call.kind != KIND_CALL
-                || !unsound.contains(&module.functions[usize::from(call.b)].place)
-        };
-        let scoped = module.functions.iter().filter(|function| {
-            let terms = function.register_types.iter().chain(&function.region_types);
-            let regions = function.region_types.len();
-            terms.chain([&function.return_term]).all(|&term| regions_used(module, term) <= regions)
-        });
-        let typing = typing_faults(module, scoped, callable, usize::MAX);
-        faults.extend(typing.into_iter().map(|refusal| (Part::Head, refusal)));
-    }
+    let unsound: HashSet<usize> = faults.iter().map(|(_, refusal)| refusal.place).collect();
+    let asks = |function: &Function, instruction: &Instruction| {
+        sound.instruction(function, instruction, &unsound)
+    };
+    let typing = typing_faults(module, asks, usize::MAX);
+    faults.extend(typing.into_iter().map(|refusal| (Part::Head, refusal)));
     faults.extend(end_faults(module).map(|refusal| (Part::Head, refusal)));
     faults
+}
+
+/// The terms that keep refusal 5, and whose parts and targets do.
+struct Sound<'m> {
+    module: &'m Module,
+    terms: Vec<bool>,
+}
+
+impl<'m> Sound<'m> {
+    /// What does not rest on one of these places of terms and names.
+    fn new(module: &'m Module, unsound: HashSet<usize>) -> Sound<'m> {
+        let places = 0..module.terms.len();
+        let mut terms: Vec<bool> = places.map(|place| !unsound.contains(&place)).collect();
+        let mut names: Vec<bool> =
+            module.names.iter().map(|name| !unsound.contains(&name.place)).collect();
+        loop {
+            let before = (terms.clone(), names.clone());
+            for (number, term) in module.terms.iter().enumerate() {
+                terms[number] &= match term {
+                    Term::Integer { .. } => true,
+                    Term::Pointer { target: inner, .. } | Term::Array { element: inner, .. } => {
+                        terms[usize::from(*inner)]
+                    }
+                    Term::Name { name, .. } => names[usize::from(*name)],
+                };
+            }
+            for (number, name) in module.names.iter().enumerate() {
+                names[number] &= name.fields.iter().all(|&field| {
+                    let pointer = matches!(module.terms[usize::from(field)], Term::Pointer { .. });
+                    pointer || terms[usize::from(field)]
+                });
+            }
+            if before == (terms.clone(), names.clone()) {
+                return Sound { module, terms };
+            }
+        }
+    }
+
+    /// Its types are sound and in scope, and so are those of the function that it calls.
+    fn instruction(
+        &self,
+        function: &Function,
+        instruction: &Instruction,
+        unsound: &HashSet<usize>,
+    ) -> bool {
+        let regions = function.region_types.len();
+        let term = |&term: &u8| {
+            self.terms[usize::from(term)] && regions_used(self.module, term) <= regions
+        };
+        let register = |number: &u8| term(&function.register_types[usize::from(*number)]);
+        let region =
+            |number: &u8| function.region_types.get(usize::from(*number)).is_some_and(term);
+        if !instruction.registers().iter().all(register) {
+            return false;
+        }
+        match instruction.kind {
+            27 | 28 => match &self.module.terms
+                [usize::from(function.register_types[usize::from(instruction.a)])]
+            {
+                Term::Pointer { region: number, .. } => region(number),
+                _ => true,
+            },
+            34 => term(&function.return_term),
+            KIND_CALL => {
+                let callee = &self.module.functions[usize::from(instruction.b)];
+                let (outer, parameters) = (callee.region_parameters, callee.parameters);
+                let mut head = callee.register_types[..parameters]
+                    .iter()
+                    .chain(&callee.region_types[..outer])
+                    .chain([&callee.return_term]);
+                !unsound.contains(&callee.place)
+                    && head.all(|&term| self.terms[usize::from(term)])
+                    && instruction.arguments[..parameters].iter().all(register)
+                    && instruction.d.to_le_bytes()[..outer].iter().all(region)
+            }
+            _ => true,
+        }
+    }
 }
 
 /// The terms and names without size, over 256 bytes, with a wrong argument count or with a field
@@ -188,20 +259,18 @@ const RULES: [&str; 19] = [
     "a returned register has the function's return type",
 ];
 
-/// The instructions of these functions that break their rule, as far as they are asked, and at most
-/// so many.
-fn typing_faults<'m>(
-    module: &'m Module,
-    functions: impl IntoIterator<Item = &'m Function>,
-    asks: impl Fn(&Instruction) -> bool,
+/// The instructions that break their rule, as far as they are asked, and at most so many.
+fn typing_faults(
+    module: &Module,
+    asks: impl Fn(&Function, &Instruction) -> bool,
     most: usize,
 ) -> Vec<Refusal> {
     let mut types = Types::new(module);
     let mut faults = Vec::new();
-    for function in functions {
+    for function in &module.functions {
         let mut typing = Typing::new(module, &mut types, function);
         for instruction in &function.code {
-            if asks(instruction) && typing.rule(instruction).is_none() {
+            if asks(function, instruction) && typing.rule(instruction).is_none() {
                 let asked = typing.asked(instruction);
                 faults.push(Refusal::asking(7, instruction.place, asked));
                 if faults.len() == most {

@@ -45,6 +45,9 @@ fn around(line: &str) -> String {
         }}
         fn f(n: i32) -> i32 {{
             return n
+        }}
+        fn list_of[r: node(r)](n: i32) -> i32 {{
+            return n
         }}"
     )
 }
@@ -95,6 +98,27 @@ fn hints_for_what_c_writes() {
         ("f(a)", "a call's value goes into a register"),
         ("return", "every function gives a value"),
         ("output \"text\"", "there are no strings"),
+        ("if a = b goto end", "equal is written `==`"),
+        ("a == 3", "`if a == b goto label` branches"),
+        ("a = -b", "`-b` is written `0 - b`"),
+        ("a = (i32) small", "`a = unsigned b` and `a = signed b`"),
+        ("a = (a + 1) * 2", "put the value into a register first"),
+        ("*p.value = a", "a value is stored through a pointer"),
+        ("a = *p.value", "`q = p.x` points to the field x, `a = *q` loads it"),
+        ("p = new node", "`p = new` makes an object of the type of p's region"),
+        ("output(small)", "`output b`"),
+        ("small = form[a + 1]", "put the value into a register first"),
+        ("goto end:", "a label has its `:` only where it stands"),
+        ("a = 1.5", "a number is written 42"),
+        ("a = 1u", "a number is written 42"),
+        ("a = 0b101", "a number is written 42"),
+        ("a = 1e3", "a number is written 42"),
+        ("a = 0x", "a number is written 42"),
+        ("a = 010", "there are no octal numbers: write 8 or 10"),
+        ("a = 09", "there are no octal numbers: write 9"),
+        ("a = 00", "there are no octal numbers: write 0"),
+        ("reg i8 x", "a name stands before its type"),
+        ("a = list_of(a)", "the regions of a call stand in square brackets"),
         ("a = sizeof(a)", "`new` makes an object of its region's type"),
         // Rules of the checker.
         ("at = row[small]", "a place is an i32: `i = unsigned b`"),
@@ -120,6 +144,7 @@ fn hints_for_what_c_writes() {
         ("at = row[1]", "a pointer to it is *i8 in rows"),
         ("at = p[a]", "only a pointer to an array has elements"),
         ("a = *b", "only a pointer leads to a value"),
+        ("a = *p", "point to a field or an element first"),
     ] {
         // Lines that open a block close it.
         let close = if line.ends_with('{') { "\n}" } else { "" };
@@ -138,6 +163,9 @@ fn hints_for_items() {
         (format!("fn f(int a) -> i32 {body}"), 1, "a name stands before its type"),
         (format!("fn f() -> void {body}"), 1, "every function gives a value"),
         (format!("struct s {{\n int x\n}}\nfn f() -> i32 {body}"), 2, "before its type"),
+        (format!("struct s {{\n i8 x\n}}\nfn f() -> i32 {body}"), 2, "before its type"),
+        (format!("struct s {{\n x: i8\n}};\nfn f() -> i32 {body}"), 3, "a line ends without `;`"),
+        (format!("fn f() -> i32 {body};"), 3, "a line ends without `;`"),
         ("fn f() -> i32 {\n reg a: i32\n a = 1\n}".to_string(), 3, "the last line of a function"),
         (
             "fn f() -> i32 {\n reg a: i32\n back:\n if a <= 1 goto back\n}".to_string(),
@@ -228,6 +256,134 @@ fn one_error_for_one_cause() {
     }
 }
 
+/// What is wrong in one place hides no rule that is broken in another.
+#[test]
+fn errors_hide_no_others() {
+    // Each line marked with `!` has an error, and no other.
+    let wrong =
+        "fn two(n: i32) -> i32 {\n reg b: i8\n b = n !\n output n !\n b = 300 !\n return b !\n}";
+    let main = "fn main(t: i32) -> i32 {\n return t\n}";
+    let registers: String = (0..29).map(|number| format!(" reg a{number}: i32\n")).collect();
+    let many: String = (0..140)
+        .map(|count| {
+            format!("type t{count} = [i8; {}]{}\n", count + 1, if count == 126 { " !" } else { "" })
+        })
+        .collect();
+    for bad in [
+        // Structs and types.
+        "struct s { x: int } !",
+        "struct s { !\n}",
+        "struct s { x: [i8; 0] } !",
+        "type word = int !",
+        "type word = [i8; 257] !",
+        "struct s { x: i8 }\nstruct t(r) {\n x: *s(r) in r !\n}",
+        "struct s { x: [i32; 65] } !\nfn g() -> i32 {\n region r: s\n reg p: *s in r\n p = new\n return 0\n}",
+        "struct s { x: s } !\nfn g() -> i32 {\n region r: s\n reg p: *s in r\n p = new\n free p\n return 0\n}",
+        "struct s(a, b, c, d, e) { x: i8 } !\nfn g() -> i32 {\n region r: s(r, r, r, r, r)\n return 0\n}",
+        "struct s { x: int } !\nstruct t { y: s }\nfn g() -> i32 {\n region r: t\n reg p: *t in r\n reg q: *i8 in r\n p = new\n q = p.y\n q = new\n return 0\n}",
+        // Functions.
+        "fn g(x: int, n: i32) -> i32 { !\n reg b: i8\n b = x\n b = n !\n return n\n}",
+        "fn g(int x, n: i32) -> i32 { !\n reg b: i8\n b = x\n b = n !\n return n\n}",
+        "fn g(n: i32) -> int { !\n reg b: i8\n b = n !\n return b\n}",
+        "fn g(n: i32) { !\n reg b: i8\n b = n !\n return b\n}",
+        "fn g(a: i8, b: i8, c: i8, d: i8, e: i8, f: i8, g: i8, h: i8) -> i32 { !\n a = 300 !\n return 0\n}",
+        "fn g[a: i8, b: i8, c: i8, d: i8, e: i8]() -> i32 { !\n output 300 !\n return 0\n}\nfn h() -> i32 {\n region r: i8\n reg a: i32\n a = g[r, r, r, r, r]()\n return 0\n}",
+        "fn g() -> i32 {\n region q: nix !\n reg p: *i8 in q\n reg b: i8\n b = 300 !\n p = new\n return 0\n}",
+        "fn g(n: i32) -> i32 {\n reg p: *i8 in 3 !\n reg b: i8\n b = *p\n b = n !\n return n\n}",
+        "fn g() -> i32 { !\n}",
+        "fn g() -> i32 {\n reg a: i32\n}!",
+        "fn g() -> i32 {\n reg a: i32\n reg b: i8\n b = a !\n a = 1 !\n}",
+        "fn g() -> i32 {\n reg a: i32\n reg b: int !\n b = 1 !\n}",
+        "fn g() -> i32 {\n reg a: i32\n goto end\nend: !\n}",
+        "fn g() -> i32 {\n reg a: i32\n raw 200 0 0 0 0 !\n return a\n}",
+        "fn g(n: i32) -> i32\n{\n reg b: i8\n b = n !\n return n\n}",
+        // As C writes it.
+        "int g(int x, int n) { !\n reg b: i8\n b = 300 !\n b = n\n n++ !\n return x; !\n}",
+        "int g(int n)!\n{\n int c = n !\n c = n\n return c\n}",
+        "static int k = 5 !\nint g(int n) { !\n int c = n !\n return c\n}",
+        "int g(int n); !",
+        &format!("fn g() -> i32 {{ !\n{registers} reg b: i8\n b = 300 !\n return a28\n}}"),
+        &many,
+    ] {
+        for text in [format!("{main}\n{bad}\n{wrong}\n"), format!("{main}\n{wrong}\n{bad}\n")] {
+            let marked = text.lines().enumerate().filter(|(_, line)| line.ends_with('!'));
+            let expected: Vec<usize> = marked.map(|(at, _)| at + 1).collect();
+            let text = text.replace('!', "");
+            let found: Vec<usize> = errors(&text).iter().map(|one| one.place.line).collect();
+            assert_eq!(found, expected, "{text}\n{:#?}", errors(&text));
+        }
+    }
+    // Functions over the limit are asked too.
+    let text = format!("{main}\n{wrong}")
+        + &(0..32)
+            .map(|at| format!("\nfn g{at}() -> i32 {{\n output 300\n return 0\n}}"))
+            .collect::<String>();
+    let found = errors(&text.replace('!', ""));
+    assert_eq!(found.iter().filter(|error| error.refused).count(), 4 + 32);
+    assert_eq!(found.iter().filter(|error| !error.refused).count(), 1);
+    // The second function is not taken for function 0.
+    let text = "fn main( {\n return 0\n}\nfn g(b: i8) -> i8 {\n return b\n}\nfn h(a: i32) -> i32 {\n reg b: i8\n b = g(b)\n a = g(b)\n return a\n}";
+    let found: Vec<usize> = errors(text).iter().map(|error| error.place.line).collect();
+    assert_eq!(found, [1, 10], "{:?}", errors(text));
+    // That there is no function is said where nothing else is wrong.
+    assert_eq!(error("struct s {\n x: i8\n};\n").place.line, 3);
+}
+
+/// However many errors there are and however long a line is, what is shown can be read.
+#[test]
+fn reports_are_bounded() {
+    let names = vec!["a"; 20_000].join(", ");
+    let text = format!("fn f() -> i32 {{\n reg {names}: i32\n return a\n}}\n");
+    let found = errors(&text);
+    let said = report("t", &text, "error", &found);
+    assert!(said.len() < 50_000, "{}", said.len());
+    assert!(said.ends_with(&format!("t: and {} more errors\n", found.len() - 100)), "{said}");
+    for error in found.iter().filter(|error| error.place.line == 2).take(100) {
+        let said = report("t", &text, "error", std::slice::from_ref(error));
+        let lines: Vec<&str> = said.lines().collect();
+        let mark = lines[2].find('^').expect("a mark");
+        assert_eq!(&lines[1][mark..=mark], "a", "{said}");
+        assert!(lines.iter().all(|line| line.len() < 120), "{said}");
+    }
+    // Long names, and lines with six digits.
+    let long = "x".repeat(100_000);
+    let text = format!("{}fn f() -> i32 {{\n return {long}\n}}", "\n".repeat(123_455));
+    let said = report("t", &text, "error", &errors(&text));
+    assert!(said.len() < 1_000, "{}", said.len());
+    let lines: Vec<&str> = said.lines().collect();
+    assert!(lines[1].starts_with("123457 |  return xxx"), "{said}");
+    assert_eq!(lines[1].find('x'), lines[2].find('^'), "{said}");
+    // Very many instructions and functions that are wrong.
+    let lines = " b = a\n".repeat(100_000);
+    let text = format!("fn f() -> i32 {{\n reg a: i32\n reg b: i8\n{lines} return a\n}}");
+    assert!(errors(&text).len() > 1_000);
+    let functions: String = (0..5_000)
+        .map(|number| format!("fn f{number}(a: i8) -> i32 {{\n return a\n}}\n"))
+        .collect();
+    assert!(errors(&functions).len() > 32);
+}
+
+#[test]
+fn numbers_and_characters() {
+    let value = |written: &str| {
+        let text = |value: &str| format!("fn f() -> i32 {{\n return {value}\n}}");
+        assemble(&text(written)).expect("a module") == assemble(&text("65")).expect("a module")
+    };
+    for written in ["'A'", "'\\x41'", "0x41", "0X41", "6_5", "0x4_1"] {
+        assert!(value(written), "{written}");
+    }
+    let made = |written: &str| assemble(&format!("fn f() -> i32 {{\n return {written}\n}}"));
+    assert_eq!(made("'\\n'"), made("10"));
+    assert_eq!(made("'\\0'"), made("0"));
+    assert_eq!(made("'\\xfF'"), made("255"));
+    assert_eq!(made("'\\'"), made("92"));
+    for wrong in ["'\\x4'", "'\\q'", "'ab'", "''", "'\u{e9}'"] {
+        assert!(made(wrong).is_err(), "{wrong}");
+    }
+    let found = error("fn f() -> i32 {\n return\u{a0}0\n}");
+    assert_eq!(found.message, "U+00A0 has no meaning here");
+}
+
 const TEN: &str = "\
 struct node(r) {
     value: i32
@@ -299,10 +455,15 @@ ten.asm:23:19: error: a constant fits its register, an integer
 ten.asm:24:11: error: expected 1 region for `total`, found 0
    24 |     sum = total(p)
       |           ^^^^^
+   hint: the regions of a call stand in square brackets: `a = f[r](b)`
 ten.asm:29:14: error: expected a type: `int` is no struct or type so far
    29 |     reg sum: int
       |              ^^^
    hint: `int` is written i32
+ten.asm:30:5: error: the last instruction of a function is a jump or a return
+   30 |     sum = 1
+      |     ^^^^^^^
+   hint: the last line of a function is `return a` or `goto label`
 ";
 
 #[test]
@@ -313,7 +474,7 @@ fn all_errors_in_the_order_of_the_text() {
     let ran = rcm_in(&folder, "asm @ten.asm -o @module", false);
     assert_eq!((ran.status, ran.out.as_str()), (BAD_INPUT, ""));
     let source = folder.join("ten.asm").display().to_string();
-    let last = format!("rcm: {source}: 11 errors, no module is written\n");
+    let last = format!("rcm: {source}: 12 errors, no module is written\n");
     assert_eq!(ran.error, TEN_SAID.replace("ten.asm", &source) + &last);
     assert_eq!(files(&folder), ["ten.asm"]);
 }
@@ -323,7 +484,7 @@ fn all_errors_in_the_order_of_the_text() {
 fn marks_and_odd_characters() {
     let text = "\u{feff}fn f() -> i32 {\r\n\treg a: i32\r\n\ta = \u{1b}[2J\r\n\treturn a\r\n}\r\n";
     let said =
-        "t:3:6: error: `\u{1b}` has no meaning here\n    3 | \ta = \u{fffd}[2J\n      | \t    ^\n";
+        "t:3:6: error: U+001B has no meaning here\n    3 | \ta = \u{fffd}[2J\n      | \t    ^\n";
     assert_eq!(report("t", text, "error", &errors(text)), said);
     let good = text.replace("\u{1b}[2J", "5");
     let plain = good.trim_start_matches('\u{feff}').replace('\r', "");

@@ -14,8 +14,8 @@ use crate::builder::{self, repair_checks, FunctionBuilder, ModuleBuilder};
 use crate::digest::sha256;
 use crate::file::{Record, BLOCK_BYTES, CHECK_AT, RECORDS_PER_BLOCK, RECORD_BYTES};
 use crate::module::{
-    self, decode, Module, Term, MAX_ARRAY, MAX_FUNCTIONS, MAX_LIST, MAX_NAMES, MAX_REGIONS,
-    MAX_REGION_PARAMETERS, MAX_TERMS,
+    self, decode, Instruction, Module, Term, KIND_ARGUMENTS, KIND_CALL, MAX_ARRAY, MAX_FUNCTIONS,
+    MAX_LIST, MAX_NAMES, MAX_REGIONS, MAX_REGION_PARAMETERS, MAX_TERMS,
 };
 use std::collections::{HashMap, HashSet};
 
@@ -90,10 +90,12 @@ pub struct Signature {
     pub return_term: u8,
     pub region_parameters: usize,
     pub parameters: usize,
-    /// The registers whose type could not be read.
+    /// The registers and regions whose type is not known.
     pub unknown: HashSet<u8>,
-    /// The types of regions, parameters and result could be read.
-    pub sound: bool,
+    pub unknown_regions: HashSet<u8>,
+    pub unknown_result: bool,
+    /// The types that a call looks at are known, and not too many.
+    pub callable: bool,
 }
 
 /// What is known of the names of a text.
@@ -110,10 +112,18 @@ pub struct Assembler<'t> {
     pub signatures: Vec<Signature>,
     /// Types, structs and functions of which only the name could be read.
     unknown: HashSet<&'t str>,
-    /// Types and structs could be read and keep the limits.
-    pub sound: bool,
+    /// Structs whose fields are not known; something stands in for them.
+    broken: HashSet<u8>,
+    /// There are too many types, which is said already.
+    full: bool,
+    /// A file can hold as many types, structs, functions and lists as there are.
+    pub within_limits: bool,
     errors: Vec<Error>,
 }
+
+/// So many functions are asked for the checker's rules where a text has more than a module can have:
+/// their numbers, and one for a function that stands in, are those of records.
+const MOST_ASKED: usize = u8::MAX as usize - 1;
 
 fn at_most(limit: usize, count: usize, what: &str, span: Span) -> Result<(), Error> {
     if count > limit {
@@ -158,19 +168,24 @@ impl<'t> Assembler<'t> {
             fields: fields.map(|names| names.map(|name| &name.text[..]).collect()).collect(),
             functions: HashMap::new(),
             signatures: Vec::new(),
-            sound: !items.iter().any(|item| matches!(item, Item::Unknown(_))),
+            broken: HashSet::new(),
+            full: false,
+            within_limits: true,
             unknown,
             errors: Vec::new(),
         };
         assembler.structs = assembler.numbered(structs(items).map(|one| &one.name), "struct");
         assembler.functions = assembler.numbered(functions(items).map(|one| &one.name), "function");
+        let wide = structs(items).enumerate();
+        let wide = wide.filter(|(_, one)| one.regions.len() > MAX_REGION_PARAMETERS);
+        assembler.broken = wide.map(|(number, _)| small(number)).collect();
         if let Some(over) = structs(items).nth(MAX_NAMES) {
             let count = structs(items).count();
-            assembler.ask(at_most(MAX_NAMES, count, "structs", over.name.span));
+            assembler.limit(at_most(MAX_NAMES, count, "structs", over.name.span));
         }
         if let Some(over) = functions(items).nth(MAX_FUNCTIONS) {
             let count = functions(items).count();
-            assembler.ask(at_most(MAX_FUNCTIONS, count, "functions", over.name.span));
+            assembler.limit(at_most(MAX_FUNCTIONS, count, "functions", over.name.span));
         }
         for item in items {
             match item {
@@ -183,14 +198,60 @@ impl<'t> Assembler<'t> {
                 _ => (),
             }
         }
+        assembler.spread();
         assembler
     }
 
-    /// Something that types, structs and limits rest on.
-    fn ask<T>(&mut self, result: Result<T, impl Into<Fault>>) -> Option<T> {
-        let known = self.take(result);
-        self.sound &= known.is_some();
-        known
+    /// A limit of the format is kept.
+    fn limit(&mut self, result: Result<(), Error>) -> bool {
+        let kept = self.take(result).is_some();
+        self.within_limits &= kept;
+        kept
+    }
+
+    /// What rests on a struct whose fields are not known has no known type either: structs that hold
+    /// it, and registers, regions and results whose type names it.
+    fn spread(&mut self) {
+        let names = &self.module.names;
+        let holds = |broken: &HashSet<u8>, number: u8| {
+            let fields = &names[usize::from(number)].fields;
+            fields.iter().any(|&field| self.rests(broken, field, false))
+        };
+        let mut broken = self.broken.clone();
+        while let Some(number) = (0..names.len() as u8)
+            .find(|&number| !broken.contains(&number) && holds(&broken, number))
+        {
+            broken.insert(number);
+        }
+        let mut signatures = std::mem::take(&mut self.signatures);
+        for signature in &mut signatures {
+            let rests = |terms: &[u8]| -> Vec<u8> {
+                let terms = terms.iter().enumerate();
+                let resting = terms.filter(|(_, &term)| self.rests(&broken, term, true));
+                resting.map(|(number, _)| small(number)).collect()
+            };
+            let (registers, regions) = (rests(&signature.registers), rests(&signature.regions));
+            let result = self.rests(&broken, signature.return_term, true);
+            let outer =
+                regions.iter().any(|&region| (region as usize) < signature.region_parameters)
+                    || registers.iter().any(|&register| (register as usize) < signature.parameters);
+            signature.callable &= !outer && !result;
+            signature.unknown.extend(registers);
+            signature.unknown_regions.extend(regions);
+            signature.unknown_result |= result;
+        }
+        self.signatures = signatures;
+        self.broken = broken;
+    }
+
+    /// A type holds one of these structs, or also only points to it.
+    fn rests(&self, broken: &HashSet<u8>, term: u8, points: bool) -> bool {
+        match &self.module.terms[usize::from(term)] {
+            Term::Integer { .. } => false,
+            Term::Pointer { target, .. } => points && self.rests(broken, *target, points),
+            Term::Array { element, .. } => self.rests(broken, *element, points),
+            Term::Name { name, .. } => broken.contains(name),
+        }
     }
 
     fn take<T>(&mut self, result: Result<T, impl Into<Fault>>) -> Option<T> {
@@ -210,7 +271,7 @@ impl<'t> Assembler<'t> {
                     format!("expected a new name: there is a {what} `{}` already", name.text);
                 self.errors.push(Error::new(name.span, message));
             } else {
-                numbers.insert(name.text.as_str(), number as u8);
+                numbers.insert(name.text.as_str(), small(number));
             }
         }
         numbers
@@ -218,8 +279,8 @@ impl<'t> Assembler<'t> {
 
     fn declare_type(&mut self, name: &'t Name, written: &Type) {
         let term = self.form(written, &HashMap::new());
-        let number = term.and_then(|term| Ok(self.push(term, written.span)?));
-        let Some(number) = self.ask(number) else {
+        let number = term.and_then(|term| self.push(term, written.span));
+        let Some(number) = self.take(number) else {
             self.unknown.insert(&name.text);
             return;
         };
@@ -235,33 +296,39 @@ impl<'t> Assembler<'t> {
     }
 
     fn declare_struct(&mut self, structure: &'t Struct) {
+        let number = self.module.names.len();
+        if number == MAX_NAMES {
+            return;
+        }
         let span = structure.name.span;
         let regions = structure.regions.len();
-        self.ask(at_most(MAX_REGION_PARAMETERS, regions, "regions of a struct", span));
-        self.ask(at_most(MAX_LIST, structure.fields.len(), "fields", span));
+        let mut known =
+            self.limit(at_most(MAX_REGION_PARAMETERS, regions, "regions of a struct", span));
+        known &= self.limit(at_most(MAX_LIST, structure.fields.len(), "fields", span));
         if structure.fields.is_empty() {
-            self.ask::<()>(Error::at(span, "expected at least one field"));
+            known &= self.limit(Error::at(span, "expected at least one field"));
         }
         let numbers = self.numbered(&structure.regions, "region");
         self.numbered(names_of(&structure.fields), "field");
-        let fields = structure.fields.iter().map(|field| {
-            let term = self.term(&field.written, &numbers);
-            self.ask(term).unwrap_or_default()
-        });
-        let fields = fields.collect();
+        let fields = self.terms(&structure.fields, &numbers);
+        let fields = match fields.into_iter().collect::<Option<Vec<u8>>>() {
+            Some(fields) if known => fields,
+            _ => {
+                self.broken.insert(small(number));
+                vec![self.any(span)]
+            }
+        };
+        let regions = regions.min(MAX_REGION_PARAMETERS);
         self.module.names.push(module::Name { place: 0, regions, fields });
     }
 
     fn declare_function(&mut self, function: &'t Function, added: &[u8]) {
         let span = function.name.span;
-        self.ask(at_most(MAX_REGIONS, function.regions.len(), "regions", span));
-        self.ask(at_most(
-            MAX_REGION_PARAMETERS,
-            function.region_parameters,
-            "region parameters",
-            span,
-        ));
-        self.ask(at_most(MAX_LIST, function.parameters, "parameters", span));
+        self.limit(at_most(MAX_REGIONS, function.regions.len(), "regions", span));
+        let outer =
+            at_most(MAX_REGION_PARAMETERS, function.region_parameters, "region parameters", span);
+        let mut callable = self.limit(outer);
+        callable &= self.limit(at_most(MAX_LIST, function.parameters, "parameters", span));
         let regions = self.numbered(names_of(&function.regions), "region");
         let (outer, local) = function.regions.split_at(function.region_parameters);
         let (parameters, own) = function.registers.split_at(function.parameters);
@@ -269,17 +336,18 @@ impl<'t> Assembler<'t> {
         let mut registers = self.terms(parameters, &regions);
         let result = self.term(&function.return_type, &regions);
         let return_term = self.take(result);
-        region_terms.extend(self.terms(local, &regions));
         let known = region_terms.iter().chain(&registers).all(Option::is_some);
+        region_terms.extend(self.terms(local, &regions));
         registers.extend(self.terms(own, &regions));
         for &width in added {
             let term = self.integer(width, span);
-            registers.push(self.ask(term));
+            registers.push(self.take(term));
         }
-        let unknown = registers.iter().enumerate().filter(|(_, term)| term.is_none());
         let signature = Signature {
-            unknown: unknown.map(|(register, _)| register as u8).collect(),
-            sound: known && return_term.is_some(),
+            unknown: missing(&registers),
+            unknown_regions: missing(&region_terms),
+            unknown_result: return_term.is_none(),
+            callable: callable && known && return_term.is_some(),
             regions: self.stand_in(region_terms, span),
             registers: self.stand_in(registers, span),
             return_term: self.stand_in(vec![return_term], span)[0],
@@ -302,8 +370,19 @@ impl<'t> Assembler<'t> {
         if terms.iter().all(Option::is_some) {
             return terms.into_iter().flatten().collect();
         }
-        let any = self.integer(4, span).unwrap_or_default();
+        let any = self.any(span);
         terms.into_iter().map(|term| term.unwrap_or(any)).collect()
+    }
+
+    /// The type that stands in for one that is not known, also where there are too many types.
+    fn any(&mut self, span: Span) -> u8 {
+        let any = Term::Integer { width: 4 };
+        let known = self.module.terms.iter().position(|known| *known == any);
+        small(known.unwrap_or_else(|| {
+            self.module.terms.push(any);
+            self.term_spans.push(span);
+            self.module.terms.len() - 1
+        }))
     }
 
     /// The number of a written type: that of a named type, of an equal term, or a new one.
@@ -314,26 +393,31 @@ impl<'t> Assembler<'t> {
             }
         }
         let term = self.form(written, regions)?;
-        Ok(self.equal_or_new(term, written.span)?)
+        self.equal_or_new(term, written.span)
     }
 
-    fn equal_or_new(&mut self, term: Term, span: Span) -> Result<u8, Error> {
+    fn equal_or_new(&mut self, term: Term, span: Span) -> Result<u8, Fault> {
         match self.module.terms.iter().position(|known| *known == term) {
             Some(number) => Ok(number as u8),
             None => self.push(term, span),
         }
     }
 
-    fn integer(&mut self, width: u8, span: Span) -> Result<u8, Error> {
+    fn integer(&mut self, width: u8, span: Span) -> Result<u8, Fault> {
         self.equal_or_new(Term::Integer { width }, span)
     }
 
-    fn push(&mut self, term: Term, span: Span) -> Result<u8, Error> {
-        let count = self.module.terms.len() + 1;
-        at_most(MAX_TERMS, count, "types in a module", span)?;
+    /// A new term. That there are too many is said once.
+    fn push(&mut self, term: Term, span: Span) -> Result<u8, Fault> {
+        let number = self.module.terms.len();
+        if number >= MAX_TERMS && self.full {
+            return Err(Fault::Known);
+        }
+        self.full = number >= MAX_TERMS;
+        at_most(MAX_TERMS, number + 1, "types in a module", span)?;
         self.module.terms.push(term);
         self.term_spans.push(span);
-        Ok((count - 1) as u8)
+        Ok(small(number))
     }
 
     fn form(&mut self, written: &Type, regions: &HashMap<&str, u8>) -> Result<Term, Fault> {
@@ -353,6 +437,9 @@ impl<'t> Assembler<'t> {
             TypeForm::Named(name, arguments) => {
                 let number = self.struct_number(name, written.span)?;
                 let span = written.span;
+                if arguments.len() > MAX_REGION_PARAMETERS && self.broken.contains(&number) {
+                    return Err(Fault::Known);
+                }
                 at_most(MAX_REGION_PARAMETERS, arguments.len(), "regions of a struct", span)?;
                 let arguments = arguments.iter().map(|region| region_number(region, regions));
                 Term::Name { name: number, arguments: arguments.collect::<Result<_, _>>()? }
@@ -363,7 +450,8 @@ impl<'t> Assembler<'t> {
 
     fn struct_number(&self, name: &str, span: Span) -> Result<u8, Fault> {
         match self.structs.get(name) {
-            Some(number) => Ok(*number),
+            Some(number) if usize::from(*number) < MAX_NAMES => Ok(*number),
+            Some(_) => Err(Fault::Known),
             None if self.unknown.contains(name) => Err(Fault::Known),
             None => {
                 let message = format!("expected a type: `{name}` is no struct or type so far");
@@ -377,7 +465,10 @@ impl<'t> Assembler<'t> {
         if self.unknown.contains(name.text.as_str()) {
             return Err(Fault::Known);
         }
-        Ok(number_of(&self.functions, name, "a function")?)
+        match number_of(&self.functions, name, "a function")? {
+            number if usize::from(number) < MOST_ASKED => Ok(number),
+            _ => Err(Fault::Known),
+        }
     }
 }
 
@@ -389,14 +480,30 @@ pub fn number_of(names: &HashMap<&str, u8>, name: &Name, what: &str) -> Result<u
     }
 }
 
-pub fn region_number(region: &Reference, regions: &HashMap<&str, u8>) -> Result<u8, Error> {
+/// The number of a region. That there are too many is said of the function.
+pub fn region_number(region: &Reference, regions: &HashMap<&str, u8>) -> Result<u8, Fault> {
     match region {
-        Reference::Named(name) => number_of(regions, name, "a region in scope"),
+        Reference::Named(name) => match number_of(regions, name, "a region in scope")? {
+            number if usize::from(number) < MAX_REGIONS => Ok(number),
+            _ => Err(Fault::Known),
+        },
         Reference::Number(number, _) if (*number as usize) < MAX_REGIONS => Ok(*number as u8),
         Reference::Number(number, span) => {
-            Error::at(*span, format!("expected a region from 0 to 6, found {number}"))
+            let message = format!("expected a region from 0 to 6, found {number}");
+            Err(Error::new(*span, message).into())
         }
     }
+}
+
+/// A number of the format; what is over every limit has the last one.
+pub fn small(number: usize) -> u8 {
+    u8::try_from(number).unwrap_or(u8::MAX)
+}
+
+/// The numbers of those that are not known.
+fn missing(terms: &[Option<u8>]) -> HashSet<u8> {
+    let missing = terms.iter().enumerate().filter(|(_, term)| term.is_none());
+    missing.map(|(number, _)| small(number)).collect()
 }
 
 /// A text as far as it could be read, with all that is wrong with it but for the checker's rules.
@@ -431,7 +538,7 @@ impl<'t> Draft<'t> {
         }
         for one in &code {
             if let Err(error) = one.keeps_limits() {
-                assembler.sound = false;
+                assembler.within_limits = false;
                 errors.push(error);
             }
         }
@@ -464,6 +571,66 @@ impl<'t> Draft<'t> {
             }
         }
         records
+    }
+
+    /// The module of the functions that the text writes without raw records, also where it has more
+    /// of something than a file can hold, with the part of the text for each place. Where a function
+    /// that is left out stands first another stands in for it, so that no other is function 0.
+    pub fn module(&self, code: &[Code]) -> (Module, Vec<Span>) {
+        let mut module = self.assembler.module.clone();
+        let mut spans = self.assembler.term_spans.clone();
+        let first = self.items.iter().find_map(|item| match item {
+            Item::Function(_) => Some(true),
+            Item::UnknownFunction(_) | Item::Raw(..) => Some(false),
+            _ => None,
+        });
+        let left_out = usize::from(first == Some(false));
+        let known = module.terms.iter().position(|term| *term == Term::Integer { width: 4 });
+        let start = code.first().map(|code| code.function.name.span);
+        if let (Some(span), 1) = (start, left_out) {
+            let return_term = known.unwrap_or(module.terms.len());
+            if known.is_none() {
+                module.terms.push(Term::Integer { width: 4 });
+                spans.push(span);
+            }
+            module.functions.push(empty_function(small(return_term)));
+        }
+        for (name, structure) in module.names.iter_mut().zip(structs(self.items)) {
+            name.place = spans.len();
+            spans.push(structure.name.span);
+        }
+        let functions = code.iter().zip(&self.assembler.signatures).take(MOST_ASKED);
+        for (code, signature) in functions {
+            let mut function = module::Function {
+                place: spans.len(),
+                region_parameters: signature.region_parameters,
+                region_types: signature.regions.clone(),
+                parameters: signature.parameters,
+                register_types: signature.registers.clone(),
+                ..empty_function(signature.return_term)
+            };
+            spans.push(code.function.name.span);
+            for (record, span) in &code.records {
+                if record.kind() == KIND_ARGUMENTS {
+                    let call = function.code.last_mut().expect("arguments follow their call");
+                    call.arguments = record.list();
+                    continue;
+                }
+                let callee = record.b() + left_out as u8;
+                function.code.push(Instruction {
+                    place: spans.len(),
+                    kind: record.kind(),
+                    a: record.a(),
+                    b: if record.kind() == KIND_CALL { callee } else { record.b() },
+                    c: record.c(),
+                    d: record.d(),
+                    arguments: [0; MAX_LIST],
+                });
+                spans.push(*span);
+            }
+            module.functions.push(function);
+        }
+        (module, spans)
     }
 
     fn file(&self) -> Result<Vec<u8>, Vec<Error>> {
@@ -517,6 +684,19 @@ impl<'t> Draft<'t> {
             })
         });
         functions.collect()
+    }
+}
+
+/// A function without parameters, registers and code.
+fn empty_function(return_term: u8) -> module::Function {
+    module::Function {
+        place: 0,
+        region_parameters: 0,
+        region_types: Vec::new(),
+        parameters: 0,
+        register_types: Vec::new(),
+        return_term,
+        code: Vec::new(),
     }
 }
 

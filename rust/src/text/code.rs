@@ -2,7 +2,9 @@
 //! registers that are added behind the declared ones, one for each width and number in a line, and
 //! are used again by the next line. What an `if` compares goes into the first added i8.
 
-use super::assembler::{keep, names_of, number_of, region_number, Assembler, Fault, Signature};
+use super::assembler::{
+    keep, names_of, number_of, region_number, small, Assembler, Fault, Signature,
+};
 use super::error::Error;
 use super::hints;
 use super::lexer::Span;
@@ -157,7 +159,9 @@ impl<'a, 't> Coder<'a, 't> {
         let lines = self.code.function.code.iter().rev();
         let at_end = lines.take_while(|line| matches!(line, Line::Label(_)));
         if let Some(Line::Label(name)) = at_end.last() {
-            self.errors.push(Error::new(name.span, "expected an instruction after a label"));
+            let error = Error::new(name.span, "expected an instruction after a label");
+            self.errors.push(error.hinting(hints::END));
+            (self.code.whole, self.code.ended) = (false, false);
         }
         for (at, target) in std::mem::take(&mut self.jumps) {
             let number = self.target(target);
@@ -234,7 +238,7 @@ impl<'a, 't> Coder<'a, 't> {
     fn register(&mut self, name: &Name) -> Result<u8, Fault> {
         match number_of(&self.registers, name, "a register") {
             Ok(register) => {
-                self.unknown |= self.signature.unknown.contains(&register);
+                self.unknown |= self.signature.unknown.contains(&register) || register == u8::MAX;
                 Ok(register)
             }
             Err(error) if self.missing.insert(format!("register {}", name.text)) => {
@@ -270,7 +274,9 @@ impl<'a, 't> Coder<'a, 't> {
             self.code.added.push(wanted);
             self.code.added.len() - 1
         });
-        (self.code.function.registers.len() + at) as u8
+        let register = small(self.code.function.registers.len() + at);
+        self.unknown |= register == u8::MAX;
+        register
     }
 
     /// The register of a value; a number goes into an added one of this width.
@@ -344,7 +350,11 @@ impl<'a, 't> Coder<'a, 't> {
                     Some(name) => self.register(name),
                     None => Ok(0),
                 };
-                record(*kind, number(a)?, number(b)?, number(c)?, *d)
+                let (a, b, c) = (number(a)?, number(b)?, number(c)?);
+                if let (27 | 28, Term::Pointer { region, .. }) = (kind, self.term_of(a)) {
+                    self.unknown |= self.signature.unknown_regions.contains(region);
+                }
+                record(*kind, a, b, c, *d)
             }
             Statement::Constant { a, number } => {
                 let register = self.register(a)?;
@@ -396,7 +406,7 @@ impl<'a, 't> Coder<'a, 't> {
             }
             Statement::Return { value } => {
                 let term = self.form_of(self.signature.return_term);
-                self.unknown |= !self.signature.sound;
+                self.unknown |= self.signature.unknown_result;
                 code::ret(self.value_of(value, term)?)
             }
         };
@@ -461,7 +471,7 @@ impl<'a, 't> Coder<'a, 't> {
     /// The position of the primitive that a path leads to.
     fn position(&self, name: &Name, register: u8, path: &[Part]) -> Result<u32, Fault> {
         let module = &self.assembler.module;
-        if self.unknown || !self.assembler.sound {
+        if self.unknown {
             return Err(Fault::Known);
         }
         let Term::Pointer { target, .. } = *self.term_of(register) else {
@@ -519,7 +529,7 @@ impl<'a, 't> Coder<'a, 't> {
     ) -> Result<[Record; 2], Fault> {
         let number = self.function(function)?;
         let callee = &self.assembler.signatures[usize::from(number)];
-        self.unknown |= !callee.sound;
+        self.unknown |= !callee.callable;
         for (given, wanted, what) in [
             (regions.len(), callee.region_parameters, "regions"),
             (arguments.len(), callee.parameters, "arguments"),
@@ -528,15 +538,21 @@ impl<'a, 't> Coder<'a, 't> {
                 let what = if wanted == 1 { what.trim_end_matches('s') } else { what };
                 let message = format!("expected {wanted} {what} for `{}`", function.text);
                 let message = format!("{message}, found {given}");
-                return Err(Error::new(function.span, message).into());
+                let hint = if what.starts_with("region") { hints::REGIONS } else { "" };
+                return Err(Error::new(function.span, message).hinting(hint).into());
             }
         }
         let regions = regions.iter().map(|region| region_number(region, &self.regions));
-        let regions = regions.collect::<Result<Vec<u8>, Error>>()?;
+        let regions = regions.collect::<Result<Vec<u8>, Fault>>()?;
+        let known = |region: &u8| !self.signature.unknown_regions.contains(region);
+        self.unknown |= !regions.iter().all(known);
         let a = self.register(a)?;
         let given = arguments.iter().zip(&callee.registers);
         let given = given.map(|(value, term)| self.value_of(value, self.form_of(*term)));
         let given = given.collect::<Result<Vec<u8>, Fault>>()?;
+        if self.unknown {
+            return Err(Fault::Known);
+        }
         Ok(code::call(a, number, &regions, &given))
     }
 }

@@ -11,8 +11,9 @@ use super::syntax::{Function, Item, Line, Name, Part, Statement, TypeForm, Typed
 use crate::builder::{self, code};
 use crate::checker::{self, Typing, ENDS};
 use crate::file::Record;
-use crate::module::{self, decode, Instruction, Module, Term, KIND_CALL, TARGET};
+use crate::module::{self, decode, Instruction, Module, Term, KIND_CALL, MAX_INSTRUCTIONS, TARGET};
 use crate::types::{regions_used, sizes, Sizes, Type, TypeId, Types, Variable, MAX_SIZE};
+use std::collections::HashSet;
 
 /// Rules that are broken, and what only warns.
 #[derive(Default)]
@@ -22,57 +23,93 @@ pub struct Diagnosis {
 }
 
 /// What the checker would say of a text, as far as it could be read: lines that have no meaning are
-/// left out.
+/// left out. Where the text gives no file that can be decoded its functions are asked without it.
 pub fn diagnose(draft: &Draft) -> Diagnosis {
-    let mut refusals = Vec::new();
-    if !draft.assembler.sound {
-        return Diagnosis::default();
-    }
+    let sound = draft.errors.is_empty();
     if !draft.has_functions() {
         let start = Span { place: Place { line: 1, column: 1 }, end: 1 };
-        let refusals = vec![Error::refusing(start, "a module has a function", String::new())];
+        let none = Error::refusing(start, "a module has a function", String::new());
+        let refusals = if sound { vec![none] } else { Vec::new() };
         return Diagnosis { refusals, warnings: Vec::new() };
     }
-    let signatures = &draft.assembler.signatures;
-    let code = draft.code.iter().zip(signatures);
-    let code: Vec<Code> =
-        code.map(|(code, signature)| checkable(code, signature.sound, &mut refusals)).collect();
-    let records = draft.records(&code);
-    let all: Vec<Record> = records.iter().map(|(record, _)| *record).collect();
-    match decode(&builder::file(&all)) {
-        Ok(module) => {
-            let text = Text { items: draft.items, module: &module, records: &records, code: &code };
-            refusals.extend(text.refusals());
-            let warnings = if refusals.is_empty() { text.warnings() } else { Vec::new() };
-            Diagnosis { refusals, warnings }
-        }
-        // It may only follow from what was left out.
-        Err(_) if !draft.errors.is_empty() => Diagnosis { refusals, warnings: Vec::new() },
+    let mut refusals: Vec<Error> = draft.code.iter().flat_map(ends_astray).collect();
+    let (module, spans, code) = match decoded(draft) {
+        Ok(decoded) => decoded,
         Err(refusal) => {
-            let last = records.last().map(|(_, span)| *span);
-            let span = records.get(refusal.place).map(|(_, span)| *span).or(last);
-            refusals.extend(span.map(|span| Error::refusing(span, refusal.asked, String::new())));
-            Diagnosis { refusals, warnings: Vec::new() }
+            // It may only follow from what was left out.
+            refusals.extend(refusal.filter(|_| sound));
+            let code: Vec<Code> = draft.code.iter().map(|code| checkable(code, false)).collect();
+            let (module, spans) = draft.module(&code);
+            (module, spans, code)
+        }
+    };
+    let text = Text { items: draft.items, module: &module, spans: &spans, code: &code };
+    refusals.extend(text.refusals());
+    let warnings = if refusals.is_empty() { text.warnings() } else { Vec::new() };
+    Diagnosis { refusals, warnings }
+}
+
+/// The module of the text's file, the part of the text for each record, and the code in it; or the
+/// rule that the file breaks, if there is a file.
+fn decoded<'t>(draft: &Draft<'t>) -> Result<(Module, Vec<Span>, Vec<Code<'t>>), Option<Error>> {
+    let unknown = |item: &Item| matches!(item, Item::UnknownFunction(_));
+    if !draft.assembler.within_limits || draft.items.iter().any(unknown) {
+        return Err(None);
+    }
+    let code: Vec<Code> = draft.code.iter().map(|code| checkable(code, true)).collect();
+    let (records, spans): (Vec<Record>, Vec<Span>) = draft.records(&code).into_iter().unzip();
+    match decode(&builder::file(&records)) {
+        Ok(module) => Ok((module, spans, code)),
+        Err(refusal) => {
+            let span = spans.get(refusal.place).or(spans.last());
+            Err(span.map(|span| Error::refusing(*span, refusal.asked, String::new())))
         }
     }
 }
 
-/// Code of which the checker can ask its typing rules: jumps lead somewhere, and a jump stands for
-/// a last line that has no meaning.
-fn checkable<'t>(code: &Code<'t>, sound: bool, refusals: &mut Vec<Error>) -> Code<'t> {
+/// Jumps of a function that lead to no instruction, and a last line that has no records and is no
+/// jump or return.
+fn ends_astray(code: &Code) -> Vec<Error> {
+    let mut errors = if code.whole { astray(code) } else { Vec::new() };
+    if let (false, Some(Line::Instruction(last, span))) = (code.ended, code.function.code.last()) {
+        if !matches!(last, Statement::Jump { .. } | Statement::Return { .. }) {
+            errors.push(Error::refusing(*span, ENDS, String::new()).hinting(hints::END));
+        }
+    }
+    errors
+}
+
+/// Code of which the checker can ask its typing rules, with raw records or without: jumps lead
+/// somewhere, and a jump stands for a last line that has no meaning and for what is over the limit.
+fn checkable<'t>(code: &Code<'t>, raw: bool) -> Code<'t> {
     let mut checkable = code.clone();
-    if code.whole {
-        refusals.extend(astray(code));
+    let is_raw = |line: &Line| matches!(line, Line::Raw(..));
+    let mut ended = code.ended && !code.records.is_empty();
+    if !raw {
+        let lines = code.function.code.iter();
+        let raws: HashSet<(usize, usize)> = lines
+            .filter_map(|line| match line {
+                Line::Raw(_, span) => Some((span.place.line, span.place.column)),
+                _ => None,
+            })
+            .collect();
+        let kept = |span: &Span| !raws.contains(&(span.place.line, span.place.column));
+        checkable.records.retain(|(_, span)| kept(span));
+        ended &= !code.function.code.last().is_some_and(is_raw);
+        if checkable.records.len() > 2 * MAX_INSTRUCTIONS {
+            checkable.records.truncate(2 * MAX_INSTRUCTIONS);
+            // A call goes with its arguments.
+            let last = checkable.records.last().map(|(record, _)| record.kind());
+            checkable.records.truncate(2 * MAX_INSTRUCTIONS - usize::from(last == Some(KIND_CALL)));
+            ended = false;
+        }
     }
     for (jump, _) in &mut checkable.records {
         if matches!(jump.kind(), 31 | 32) {
             *jump = builder::record(jump.kind(), jump.a(), jump.b(), jump.c(), 0);
         }
     }
-    if !sound {
-        checkable.records.clear();
-    }
-    if !sound || !code.ended || code.records.is_empty() {
+    if !ended {
         checkable.records.push((code::jump(0), code.function.end));
     }
     checkable
@@ -105,7 +142,8 @@ fn astray(code: &Code) -> Vec<Error> {
 struct Text<'a, 't> {
     items: &'a [Item],
     module: &'a Module,
-    records: &'a [(Record, Span)],
+    /// The part of the text for each place.
+    spans: &'a [Span],
     code: &'a [Code<'t>],
 }
 
@@ -126,7 +164,7 @@ impl<'a> Text<'a, '_> {
     }
 
     fn span(&self, place: usize) -> Span {
-        self.records[place].1
+        self.spans[place]
     }
 
     /// The function of the text that a function of the module is, if no raw record makes it.
@@ -192,11 +230,11 @@ impl<'a> Text<'a, '_> {
     /// An instruction that breaks its rule.
     fn code_error(&self, place: usize, asked: &str) -> Error {
         let span = self.span(place);
-        let functions = self.module.functions.iter();
-        let mut found =
-            functions.flat_map(|one| one.code.iter().map(move |instruction| (one, instruction)));
-        let found = found.find(|(_, instruction)| instruction.place == place);
-        let (function, instruction) = found.expect("the checker's place is an instruction");
+        let functions = &self.module.functions;
+        let behind = functions.partition_point(|function| function.place <= place);
+        let function = &functions[behind - 1];
+        let at = function.code.partition_point(|instruction| instruction.place < place);
+        let instruction = &function.code[at];
         let Some(written) = self.written(function) else {
             return Error::refusing(span, asked, String::new());
         };
@@ -424,6 +462,7 @@ impl<'a> Operands<'a, '_> {
             25 | 26 => {
                 let (pointer, register) = if kind == 25 { (b, a) } else { (a, b) };
                 match self.target(pointer) {
+                    Some(Term::Name { .. } | Term::Array { .. }) => hints::PART,
                     Some(target) => between(self.term(register), target),
                     None => hints::DEREFERENCE,
                 }
