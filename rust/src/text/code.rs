@@ -538,7 +538,8 @@ impl<'a, 't> Coder<'a, 't> {
                 let what = if wanted == 1 { what.trim_end_matches('s') } else { what };
                 let message = format!("expected {wanted} {what} for `{}`", function.text);
                 let message = format!("{message}, found {given}");
-                let hint = if what.starts_with("region") { hints::REGIONS } else { "" };
+                let lacks = given < wanted && what.starts_with("region");
+                let hint = if lacks { hints::REGIONS } else { "" };
                 return Err(Error::new(function.span, message).hinting(hint).into());
             }
         }
