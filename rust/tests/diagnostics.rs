@@ -297,6 +297,7 @@ fn errors_hide_no_others() {
         "fn g() -> i32 {\n reg a: i32\n goto end\nend: !\n}",
         "fn g() -> i32 {\n reg a: i32\n raw 200 0 0 0 0 !\n return a\n}",
         "fn g(n: i32) -> i32\n{\n reg b: i8\n b = n !\n return n\n}",
+        "fn g(n: i32) -> i32 {\u{a0}!\n reg b: i8\n b = n !\n return n\n}",
         // As C writes it.
         "int g(int x, int n) { !\n reg b: i8\n b = 300 !\n b = n\n n++ !\n return x; !\n}",
         "int g(int n)!\n{\n int c = n !\n c = n\n return c\n}",

@@ -118,16 +118,20 @@ impl<'t> Lexer<'t> {
                 self.take(sign.len());
                 Ok(Token::Sign(sign))
             }
-            None => {
-                let sign = self.take(first.len_utf8());
-                let shown = match unseen(first) {
-                    true => format!("U+{:04X}", u32::from(first)),
-                    false => format!("`{sign}`"),
-                };
-                let error = Error::new(self.since(place), format!("{shown} has no meaning here"));
-                Err(error.hinting(hints::of_sign(sign)))
-            }
+            None => Err(self.no_meaning(first)),
         }
+    }
+
+    /// Takes a character that has no meaning.
+    fn no_meaning(&mut self, first: char) -> Error {
+        let place = self.place;
+        let sign = self.take(first.len_utf8());
+        let shown = match unseen(first) {
+            true => format!("U+{:04X}", u32::from(first)),
+            false => format!("`{sign}`"),
+        };
+        let error = Error::new(self.since(place), format!("{shown} has no meaning here"));
+        error.hinting(hints::of_sign(sign))
     }
 
     /// A character of one byte between quotes is its number; `\n`, `\0` and `\x41` are as in C.
@@ -162,6 +166,12 @@ impl<'t> Lexer<'t> {
             self.take_while(|next| next == ' ' || next == '\t' || next == '\r');
             if self.rest.starts_with('#') {
                 self.take_while(|next| next != '\n');
+            }
+            // A blank of another kind is an error that hides no others.
+            let next = self.rest.chars().next();
+            if let Some(blank) = next.filter(|&next| next != '\n' && unseen(next)) {
+                errors.push(self.no_meaning(blank));
+                continue;
             }
             let Some(sign) = ["//", "/*"].into_iter().find(|sign| self.rest.starts_with(sign))
             else {

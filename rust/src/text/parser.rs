@@ -11,6 +11,7 @@ use super::syntax::{
 use crate::builder::record;
 use crate::file::Record;
 use crate::module::MAX_TERMS;
+use std::collections::HashSet;
 
 struct Parser {
     tokens: Vec<(Token, Span)>,
@@ -525,9 +526,19 @@ impl Parser {
         }
     }
 
-    /// The lines up to the closing brace. Braces that lines leave open which cannot be read are
-    /// closed before it.
+    /// The lines up to the closing brace. Registers that are declared as in C have no known type.
     fn body(&mut self, function: &mut Function) {
+        let from_c = self.lines(function);
+        let known = function.registers.iter().map(|one| one.name.text.clone());
+        let mut known: HashSet<String> = known.collect();
+        let new = from_c.into_iter().filter(|one| known.insert(one.name.text.clone()));
+        function.registers.extend(new);
+    }
+
+    /// The same; gives the registers that are declared as in C. Braces that lines leave open which
+    /// cannot be read are closed before the last one.
+    fn lines(&mut self, function: &mut Function) -> Vec<Typed> {
+        let mut from_c = Vec::new();
         let mut open = 0;
         loop {
             self.skip_lines();
@@ -536,16 +547,16 @@ impl Parser {
             if self.takes("}") {
                 if open == 0 {
                     self.skip_semicolon();
-                    return;
+                    return from_c;
                 }
                 open += self.skip_line();
                 open -= 1;
             } else if *self.peek() == Token::End || self.begins_item() {
                 self.errors.push(self.expected_error("`}` at the end of the function"));
-                return;
+                return from_c;
             } else if let Err(error) = self.body_line(function) {
                 self.errors.push(error);
-                function.registers.extend(self.declared_as_in_c(first, &function.registers));
+                from_c.extend(self.declared_as_in_c(first));
                 function.code.push(Line::Unknown);
                 open += self.skip_line();
             }
@@ -553,7 +564,7 @@ impl Parser {
     }
 
     /// The register of a line that declares it as C does: words of a type before a name.
-    fn declared_as_in_c(&self, first: usize, known: &[Typed]) -> Option<Typed> {
+    fn declared_as_in_c(&self, first: usize) -> Option<Typed> {
         let line = self.tokens[first..].iter();
         let line = line.skip(usize::from(self.tokens[first].0 == Token::Word("reg".to_string())));
         let words =
@@ -562,8 +573,7 @@ impl Parser {
         let [(Token::Word(first), _), .., (Token::Word(text), span)] = words[..] else {
             return None;
         };
-        let new = known.iter().all(|one| one.name.text != *text);
-        (new && hints::is_type(first) && !KEYWORDS.contains(&text.as_str())).then(|| Typed {
+        (hints::is_type(first) && !KEYWORDS.contains(&text.as_str())).then(|| Typed {
             name: Name { text: text.clone(), span: *span },
             written: Type { form: TypeForm::Unknown, span: *span },
         })
