@@ -161,6 +161,7 @@ fn hints_for_items() {
         (format!("int main() {body}"), 1, "a function is written `fn name(a: i32) -> i32 {`"),
         (format!("fn f() {body}"), 1, "every function gives a value"),
         (format!("fn f(int a) -> i32 {body}"), 1, "a name stands before its type"),
+        (format!("fn f(void) -> i32 {body}"), 1, "a function without parameters is written"),
         (format!("fn f() -> void {body}"), 1, "every function gives a value"),
         (format!("struct s {{\n int x\n}}\nfn f() -> i32 {body}"), 2, "before its type"),
         (format!("struct s {{\n i8 x\n}}\nfn f() -> i32 {body}"), 2, "before its type"),
@@ -303,6 +304,7 @@ fn errors_hide_no_others() {
         "int g(int n)!\n{\n int c = n !\n c = n\n return c\n}",
         "static int k = 5 !\nint g(int n) { !\n int c = n !\n return c\n}",
         "int g(int n); !",
+        "int g(void) { !\n reg b: i8\n b = 300 !\n return b\n}",
         &format!("fn g() -> i32 {{ !\n{registers} reg b: i8\n b = 300 !\n return a28\n}}"),
         &many,
     ] {

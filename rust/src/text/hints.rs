@@ -126,6 +126,7 @@ pub fn behind(sign: &str) -> &'static str {
 pub const NUMBER: &str =
     "a number is written 42, 1_000, 0x2a, 'a' or -1; it has no suffix, no point and no exponent";
 pub const TYPED: &str = "a name stands before its type: `a: i32`";
+pub const VOID: &str = "a function without parameters is written `fn name() -> i32 {`";
 pub const NEGATIVE: &str = "`-b` is written `0 - b`";
 pub const EQUAL: &str = "equal is written `==`: `if a == b goto label`";
 pub const COMPARISON: &str = "`c = a == b` puts 0 or 1 into an i8, `if a == b goto label` branches";

@@ -501,6 +501,10 @@ impl Parser {
             Vec::new()
         };
         self.expect("(")?;
+        if self.is_word("void") && *self.peek_behind(1) == Token::Sign(")") {
+            self.errors.push(self.expected_error("a parameter's name or `)`").hinting(hints::VOID));
+            self.advance();
+        }
         let registers = self.typed_list(")", "a parameter's name")?;
         let span = self.span();
         let return_type = self.result().unwrap_or_else(|error| {
