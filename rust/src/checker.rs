@@ -98,16 +98,15 @@ impl<'m> Sound<'m> {
         let term = |&term: &u8| {
             self.terms[usize::from(term)] && regions_used(self.module, term) <= regions
         };
-        let register = |number: &u8| term(&function.register_types[usize::from(*number)]);
+        let register_type = |number: u8| function.register_types[usize::from(number)];
+        let register = |number: &u8| term(&register_type(*number));
         let region =
             |number: &u8| function.region_types.get(usize::from(*number)).is_some_and(term);
         if !instruction.registers().iter().all(register) {
             return false;
         }
         match instruction.kind {
-            27 | 28 => match &self.module.terms
-                [usize::from(function.register_types[usize::from(instruction.a)])]
-            {
+            27 | 28 => match &self.module.terms[usize::from(register_type(instruction.a))] {
                 Term::Pointer { region: number, .. } => region(number),
                 _ => true,
             },

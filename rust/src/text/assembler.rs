@@ -121,6 +121,9 @@ pub struct Assembler<'t> {
     errors: Vec<Error>,
 }
 
+/// What stands in for types that are not known.
+const WORD: Term = Term::Integer { width: 4 };
+
 /// So many functions are asked for the checker's rules where a text has more than a module can have:
 /// their numbers, and one for a function that stands in, are those of records.
 const MOST_ASKED: usize = u8::MAX as usize - 1;
@@ -376,13 +379,16 @@ impl<'t> Assembler<'t> {
 
     /// The type that stands in for one that is not known, also where there are too many types.
     fn any(&mut self, span: Span) -> u8 {
-        let any = Term::Integer { width: 4 };
-        let known = self.module.terms.iter().position(|known| *known == any);
-        small(known.unwrap_or_else(|| {
-            self.module.terms.push(any);
+        self.word().unwrap_or_else(|| {
+            self.module.terms.push(WORD);
             self.term_spans.push(span);
-            self.module.terms.len() - 1
-        }))
+            small(self.module.terms.len() - 1)
+        })
+    }
+
+    /// The number of i32, if it is a type of the text.
+    fn word(&self) -> Option<u8> {
+        self.module.terms.iter().position(|known| *known == WORD).map(small)
     }
 
     /// The number of a written type: that of a named type, of an equal term, or a new one.
@@ -574,60 +580,40 @@ impl<'t> Draft<'t> {
     }
 
     /// The module of the functions that the text writes without raw records, also where it has more
-    /// of something than a file can hold, with the part of the text for each place. Where a function
-    /// that is left out stands first another stands in for it, so that no other is function 0.
+    /// of something than a file can hold, with the part of the text for each place.
     pub fn module(&self, code: &[Code]) -> (Module, Vec<Span>) {
         let mut module = self.assembler.module.clone();
         let mut spans = self.assembler.term_spans.clone();
-        let first = self.items.iter().find_map(|item| match item {
-            Item::Function(_) => Some(true),
-            Item::UnknownFunction(_) | Item::Raw(..) => Some(false),
-            _ => None,
+        // What is left out may be function 0: then another stands in for it.
+        let first = self.items.iter().find(|item| {
+            matches!(item, Item::Function(_) | Item::UnknownFunction(_) | Item::Raw(..))
         });
-        let left_out = usize::from(first == Some(false));
-        let known = module.terms.iter().position(|term| *term == Term::Integer { width: 4 });
-        let start = code.first().map(|code| code.function.name.span);
-        if let (Some(span), 1) = (start, left_out) {
-            let return_term = known.unwrap_or(module.terms.len());
-            if known.is_none() {
-                module.terms.push(Term::Integer { width: 4 });
-                spans.push(span);
+        let stands_in = match (first, code.first()) {
+            (Some(Item::UnknownFunction(_) | Item::Raw(..)), Some(second)) => {
+                let word = self.assembler.word().unwrap_or_else(|| {
+                    module.terms.push(WORD);
+                    spans.push(second.function.name.span);
+                    small(module.terms.len() - 1)
+                });
+                module.functions.push(empty_function(0, word));
+                1
             }
-            module.functions.push(empty_function(small(return_term)));
-        }
+            _ => 0,
+        };
         for (name, structure) in module.names.iter_mut().zip(structs(self.items)) {
             name.place = spans.len();
             spans.push(structure.name.span);
         }
-        let functions = code.iter().zip(&self.assembler.signatures).take(MOST_ASKED);
-        for (code, signature) in functions {
+        for (code, signature) in code.iter().zip(&self.assembler.signatures).take(MOST_ASKED) {
             let mut function = module::Function {
-                place: spans.len(),
                 region_parameters: signature.region_parameters,
                 region_types: signature.regions.clone(),
                 parameters: signature.parameters,
                 register_types: signature.registers.clone(),
-                ..empty_function(signature.return_term)
+                ..empty_function(spans.len(), signature.return_term)
             };
             spans.push(code.function.name.span);
-            for (record, span) in &code.records {
-                if record.kind() == KIND_ARGUMENTS {
-                    let call = function.code.last_mut().expect("arguments follow their call");
-                    call.arguments = record.list();
-                    continue;
-                }
-                let callee = record.b() + left_out as u8;
-                function.code.push(Instruction {
-                    place: spans.len(),
-                    kind: record.kind(),
-                    a: record.a(),
-                    b: if record.kind() == KIND_CALL { callee } else { record.b() },
-                    c: record.c(),
-                    d: record.d(),
-                    arguments: [0; MAX_LIST],
-                });
-                spans.push(*span);
-            }
+            function.code = instructions(code, stands_in, &mut spans);
             module.functions.push(function);
         }
         (module, spans)
@@ -688,9 +674,9 @@ impl<'t> Draft<'t> {
 }
 
 /// A function without parameters, registers and code.
-fn empty_function(return_term: u8) -> module::Function {
+fn empty_function(place: usize, return_term: u8) -> module::Function {
     module::Function {
-        place: 0,
+        place,
         region_parameters: 0,
         region_types: Vec::new(),
         parameters: 0,
@@ -698,6 +684,31 @@ fn empty_function(return_term: u8) -> module::Function {
         return_term,
         code: Vec::new(),
     }
+}
+
+/// The instructions of a function at the next places. The functions that they call stand behind so
+/// many others.
+fn instructions(code: &Code, behind: u8, spans: &mut Vec<Span>) -> Vec<Instruction> {
+    let mut instructions: Vec<Instruction> = Vec::new();
+    for (record, span) in &code.records {
+        if record.kind() == KIND_ARGUMENTS {
+            let call = instructions.last_mut().expect("arguments follow their call");
+            call.arguments = record.list();
+            continue;
+        }
+        let callee = if record.kind() == KIND_CALL { behind } else { 0 };
+        instructions.push(Instruction {
+            place: spans.len(),
+            kind: record.kind(),
+            a: record.a(),
+            b: record.b() + callee,
+            c: record.c(),
+            d: record.d(),
+            arguments: [0; MAX_LIST],
+        });
+        spans.push(*span);
+    }
+    instructions
 }
 
 /// Head, types and code of a function.
