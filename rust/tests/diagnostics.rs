@@ -285,6 +285,8 @@ fn errors_hide_no_others() {
         // Functions.
         "fn g(x: int, n: i32) -> i32 { !\n reg b: i8\n b = x\n b = n !\n return n\n}",
         "fn g(int x, n: i32) -> i32 { !\n reg b: i8\n b = x\n b = n !\n return n\n}",
+        "fn g(x i32, n: i32) -> i32 { !\n reg b: i8\n b = x\n b = n !\n return n\n}",
+        "fn g(x: *i8) in 0, n: i32) -> i32 { !\n n = g(n, n)\n return n\n}",
         "fn g(n: i32) -> int { !\n reg b: i8\n b = n !\n return b\n}",
         "fn g(n: i32) { !\n reg b: i8\n b = n !\n return b\n}",
         "fn g(a: i8, b: i8, c: i8, d: i8, e: i8, f: i8, g: i8, h: i8) -> i32 { !\n a = 300 !\n return 0\n}",

@@ -314,7 +314,7 @@ impl Parser {
     }
 
     /// Names with types between brackets. One that cannot be read is an error and has no known type
-    /// if its name is seen: before a colon, or last, as C writes it.
+    /// if its name is seen: before a colon or a type, or last, as C writes it.
     fn typed_list(&mut self, close: &str, what: &str) -> Result<Vec<Typed>, Error> {
         self.list(close, |parser| {
             let first = parser.at;
@@ -329,6 +329,7 @@ impl Parser {
                 let written = &parser.tokens[first..parser.at];
                 let named = match written {
                     [name, (Token::Sign(":"), _), ..] => name,
+                    [name, .., (Token::Word(last), _)] if hints::is_type(last) => name,
                     [_, .., name] => name,
                     _ => return Err(error),
                 };
@@ -507,11 +508,16 @@ impl Parser {
         }
         let registers = self.typed_list(")", "a parameter's name")?;
         let span = self.span();
-        let return_type = self.result().unwrap_or_else(|error| {
+        // Behind all parameters stands a result, or nothing as in C.
+        let whole = matches!(self.peek(), Token::Sign("->" | "{" | ";") | Token::Line | Token::End);
+        let return_type = self.result().or_else(|error| {
+            if !whole {
+                return Err(error);
+            }
             self.errors.push(error);
             self.skip_line_up_to_brace();
-            Type { form: TypeForm::Unknown, span }
-        });
+            Ok(Type { form: TypeForm::Unknown, span })
+        })?;
         self.skip_lines_to_brace();
         self.expect("{")?;
         Ok((regions, registers, return_type))
