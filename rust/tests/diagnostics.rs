@@ -196,6 +196,8 @@ fn types_that_break_rules() {
     let end = "fn main() -> i32 {\n return 0\n}";
     for (text, place, message) in [
         ("struct a {\n x: a\n y: i32\n}\nstruct b {\n x: [a; 2]\n}", (1, 8), "a size of at most"),
+        ("struct a {\n v: i32\n x: [a; 4]\n}", (1, 8), "a struct holds only earlier structs"),
+        ("struct a {\n x: [b; 1]\n}\nstruct b {\n y: a\n}", (1, 8), "only earlier structs"),
         ("struct a {\n x: [i32; 100]\n}", (2, 5), "a size of at most 256 bytes"),
         ("struct a(r) {\n x: *a in r\n}", (2, 6), "as many regions as the struct has"),
         ("struct a {\n x: *i8 in 0\n}", (1, 8), "fields that use only the struct's own regions"),
@@ -603,6 +605,13 @@ fn maps_of_raw_functions() {
     let names: Vec<&str> = made.map.functions.iter().map(|one| &one.name[..]).collect();
     assert_eq!(names, ["f0", "f"]);
     assert_eq!(made.map.functions[0].code[1].line, 5);
+    // Bytes of the file can make a function of filler: then nobody has its names.
+    let made_of_bytes =
+        "fn f() -> i32 {\n reg a: i32\n return a\n}\nfile byte 36 = 7\nfile byte 39 = 1\n\
+                         file byte 42 = 1\nfile byte 44 = 9\nfile byte 52 = 34\n";
+    let made = assemble_all(made_of_bytes, "text").unwrap_or_else(|errors| panic!("{errors:?}"));
+    let module = decode(&made.file).expect("a module");
+    assert_eq!((module.functions.len(), made.map.fits(&made.file, &module)), (2, false));
     // A raw record that breaks a rule is shown at its line.
     let found = error(&text.replace("raw 16 0 0 0 42", "raw 16 5 0 0 42"));
     assert_eq!((found.place.line, found.refused), (4, true), "{found}");

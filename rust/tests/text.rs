@@ -467,7 +467,12 @@ fn damaged_texts() {
         }
         let unchecked = assemble_unchecked(&text, "text");
         match assemble_all(&text, "text") {
-            Ok(made) => assert!(unchecked.is_ok_and(|same| same.file == made.file), "{text}"),
+            Ok(made) => {
+                assert!(unchecked.is_ok_and(|same| same.file == made.file), "{text}");
+                // What asm does not object to is accepted, whatever else the text says of its file.
+                let plain = !text.contains("file ");
+                assert!(!plain || reference::checker::check(&made.file).is_ok(), "{text}");
+            }
             Err(errors) => {
                 let refused = errors.iter().all(|error| error.refused);
                 assert_eq!(unchecked.is_ok(), refused, "{text}\n{errors:?}");
@@ -476,4 +481,19 @@ fn damaged_texts() {
             }
         }
     }
+}
+
+/// Inside brackets lines do not count: regions and arguments of a call, parameters.
+#[test]
+fn lists_go_over_lines() {
+    let head = "fn main() -> i32 {\n region r: i32\n reg a: i32\n";
+    let callee = "fn f[\n r: i32,\n s: i32](\n x: i32,\n y: i32) -> i32 {\n return x\n}\n";
+    let broken = format!("{head} a = f[r,\n r](a,\n a)\n return a\n}}\n{callee}");
+    let plain = format!("{head} a = f[r, r](a, a)\n return a\n}}\n{callee}");
+    assert_eq!(assemble(&broken), assemble(&plain), "{broken}");
+    assert!(assemble(&plain).is_ok());
+    // An index that is not closed takes no bracket of a later line.
+    let open = format!("{head} a = a[r\n a = f[r, r](a, a)\n return a\n}}\n{callee}");
+    let errors = assemble_all(&open, "text").err().expect("an error");
+    assert_eq!(errors[0].place.line, 4, "{errors:?}");
 }

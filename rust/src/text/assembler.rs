@@ -638,8 +638,15 @@ impl<'t> Draft<'t> {
             regions: structure.regions.iter().map(|region| region.text.clone()).collect(),
             fields: names_of(&structure.fields).map(|field| field.text.clone()).collect(),
         });
+        let records = self.records(&self.code);
+        // Records that lines about the file have made have no place in the text.
         let functions = match decode(file) {
-            Ok(module) => self.functions_of(&module),
+            Ok(module) if last_place(&module) < records.len() => {
+                functions_of(&self.code, &records, &module)
+            }
+            Ok(_) => Vec::new(),
+            // Behind raw records nothing is known of a file that is no module.
+            Err(_) if self.items.iter().any(|item| matches!(item, Item::Raw(..))) => Vec::new(),
             Err(_) => self.code.iter().map(Code::names).collect(),
         };
         Map {
@@ -649,28 +656,33 @@ impl<'t> Draft<'t> {
             functions,
         }
     }
+}
 
-    /// The names of each function of the module; those that raw records make have numbers alone.
-    fn functions_of(&self, module: &Module) -> Vec<FunctionNames> {
-        let records = self.records(&self.code);
-        let functions = module.functions.iter().enumerate().map(|(number, function)| {
-            let place = |record: usize| records[record].1.place;
-            let head = place(function.place);
-            let written = self.code.iter().find(|code| code.function.name.span.place == head);
-            let numbers = |prefix: char, count: usize| {
-                (0..count).map(|number| format!("{prefix}{number}")).collect()
-            };
-            written.map(Code::names).unwrap_or_else(|| FunctionNames {
-                name: format!("f{number}"),
-                place: head,
-                regions: numbers('R', function.region_types.len()),
-                registers: numbers('r', function.register_types.len()),
-                labels: Vec::new(),
-                code: function.code.iter().map(|one| place(one.place)).collect(),
-            })
-        });
-        functions.collect()
-    }
+/// The last record that an instruction of the module stands at.
+fn last_place(module: &Module) -> usize {
+    let instructions = module.functions.iter().flat_map(|function| &function.code);
+    instructions.map(|instruction| instruction.place).max().unwrap_or(0)
+}
+
+/// The names of each function of the module; those that raw records make have numbers alone.
+fn functions_of(code: &[Code], records: &[(Record, Span)], module: &Module) -> Vec<FunctionNames> {
+    let functions = module.functions.iter().enumerate().map(|(number, function)| {
+        let place = |record: usize| records[record].1.place;
+        let head = place(function.place);
+        let written = code.iter().find(|code| code.function.name.span.place == head);
+        let numbers = |prefix: char, count: usize| {
+            (0..count).map(|number| format!("{prefix}{number}")).collect()
+        };
+        written.map(Code::names).unwrap_or_else(|| FunctionNames {
+            name: format!("f{number}"),
+            place: head,
+            regions: numbers('R', function.region_types.len()),
+            registers: numbers('r', function.register_types.len()),
+            labels: Vec::new(),
+            code: function.code.iter().map(|one| place(one.place)).collect(),
+        })
+    });
+    functions.collect()
 }
 
 /// A function without parameters, registers and code.

@@ -184,10 +184,12 @@ impl<'a> Text<'a, '_> {
             Some(_) => false,
             None => {
                 let number = names.iter().position(|name| name.place == place)?;
-                names[number].fields.iter().any(|&field| match &terms[usize::from(field)] {
-                    Term::Name { name, .. } => usize::from(*name) < number && large_name(*name),
-                    _ => large_term(field),
-                })
+                // A struct that holds itself or a later one, also in arrays, is wrong by itself.
+                let earlier = |field: u8| match self.innermost(field) {
+                    Term::Name { name, .. } => usize::from(*name) < number,
+                    _ => true,
+                };
+                names[number].fields.iter().any(|&field| large_term(field) && earlier(field))
             }
         };
         let found = match terms.get(place) {
@@ -198,6 +200,14 @@ impl<'a> Text<'a, '_> {
             _ => String::new(),
         };
         (!follows).then(|| Error::refusing(self.span(place), asked, found))
+    }
+
+    /// The term that an array holds in the end; another term itself.
+    fn innermost(&self, term: u8) -> &Term {
+        match &self.module.terms[usize::from(term)] {
+            Term::Array { element, .. } => self.innermost(*element),
+            other => other,
+        }
     }
 
     /// A function whose types do not fit.

@@ -835,10 +835,17 @@ impl Parser {
 
     /// A list in square brackets and then an opening bracket: regions of a call.
     fn is_call(&self) -> bool {
-        let line = self.tokens[self.at..].iter().map(|(token, _)| token);
-        let line = line.take_while(|token| **token != Token::Line);
-        let mut closed = line.skip_while(|token| **token != Token::Sign("]")).skip(1);
-        closed.next() == Some(&Token::Sign("("))
+        let tokens = self.tokens[self.at..].windows(2).map(|two| [&two[0].0, &two[1].0]);
+        // A list goes on behind a line's end where a comma or its bracket stands before it.
+        let ends = |two: &[&Token; 2]| match two {
+            [Token::Sign("]"), _] => true,
+            [Token::Sign("," | "["), Token::Line] => false,
+            [Token::Line, _] => false,
+            [_, Token::Line] => true,
+            _ => false,
+        };
+        let mut closed = tokens.skip_while(|two| !ends(two));
+        matches!(closed.next(), Some([Token::Sign("]"), Token::Sign("(")]))
     }
 
     fn regions_and_call(&mut self, a: Name, function: Name) -> Result<Statement, Error> {
