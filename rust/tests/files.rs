@@ -129,6 +129,7 @@ fn no_output_is_an_input_or_another_output() {
     symlink("form", folder.join("link")).expect("a link");
     fs::hard_link(folder.join("form"), folder.join("name")).expect("a second name");
     good(&folder, "run @module @form --budget 9 --state @state --output @list", RUNNING);
+    good(&folder, "run @module @form --budget 9 --state @other", RUNNING);
     fs::write(folder.join("mine.info"), b"my notes").expect("a file");
     fs::write(folder.join("mine.partial"), b"stopped the drug on Monday").expect("a file");
     for (line, message) in [
@@ -152,6 +153,17 @@ fn no_output_is_an_input_or_another_output() {
         ("run @module @form --output @module.map", "is the module's map"),
         ("run @module @form --output @state", "is a saved state: it would be overwritten"),
         ("asm @text -o @state", "is a saved state: it would be overwritten"),
+        ("asm @text -o @list --no-map", "is the output of the run that is saved in"),
+        ("pages @module @other --svg @list", "is the output of the run that is saved in"),
+        ("run @module @form --output @state.info", "is a state's info: it would be overwritten"),
+        (
+            "run @module @form --output @list.partial",
+            "is an output's mark: it would be overwritten",
+        ),
+        (
+            "run @module @form --state @other --output @list",
+            "is the output of a run that is saved in",
+        ),
         ("pages @module @state --svg @state.info", "is the state's info"),
         ("pages @module @state --svg @module.map", "is the module's map"),
         // A run that is saved keeps its output, though the state is mistyped or left out.
@@ -322,6 +334,34 @@ fn a_state_is_that_of_its_info() {
     assert!(ran.error.ends_with("refused 22 0: this state has ended already: its list is whole\n"));
 }
 
+/// A mark that a killed program has left beside a whole list goes when the run is seen to be over.
+#[test]
+fn marks_of_runs_that_are_over_go() {
+    let folder = folder("over");
+    let line = "run @module @form --budget 300 --state @state --output @list";
+    good(&folder, line, RUNNING);
+    let mark = fs::read(folder.join("list.partial")).expect("the mark");
+    good(&folder, line, DONE);
+    fs::write(folder.join("list.partial"), &mark).expect("a mark");
+    good(&folder, line, REFUSED);
+    assert!(!folder.join("list.partial").exists());
+    // Nor does it keep a new run from writing its list.
+    fs::write(folder.join("list.partial"), &mark).expect("a mark");
+    good(&folder, "run @module @form --output @list", DONE);
+    assert!(!folder.join("list.partial").exists());
+}
+
+/// A file without info may have any bytes behind those that were written.
+#[test]
+fn an_output_that_nothing_speaks_of_has_its_length() {
+    let folder = folder("longer");
+    good(&folder, "run @module @form --budget 310 --state @state --output @list", RUNNING);
+    fs::remove_file(folder.join("state.info")).expect("the info");
+    fs::write(folder.join("mine"), b"bed and breakfast").expect("a file");
+    let line = "run @module @form --state @state --output @mine";
+    bad(&folder, line, "mine has 17 bytes, but ");
+}
+
 /// What stands beside a file is found under each of its names.
 #[test]
 fn beside_a_link_is_beside_its_file() {
@@ -468,6 +508,17 @@ mod program {
         fs::write(folder.join("text"), ENDLESS).expect("a text");
         good(&folder, "asm @text -o @module", DONE);
         good(&folder, "run @module @form --budget 10 --state @state", RUNNING);
+        // Both at the same moment: one of them is told, and what is there can be gone on with.
+        let both = "run module form --budget 50000000 --state state --output list";
+        fs::remove_file(folder.join("state")).expect("the state");
+        for _ in 0..5 {
+            let runs = [spawn(&folder, both), spawn(&folder, both)];
+            let codes = runs.map(|run| run.wait_with_output().expect("its end").status.code());
+            assert!(codes.contains(&Some(4)), "{codes:?}");
+            good(&folder, "run @module @form --budget 9 --state @state --output @list", RUNNING);
+        }
+        fs::remove_file(folder.join("state")).expect("the state");
+        good(&folder, "run @module @form --budget 10 --state @state", RUNNING);
         let line = "run module form --budget 1000000000000 --state state";
         let child = spawn(&folder, line);
         std::thread::sleep(Duration::from_millis(300));
@@ -493,6 +544,8 @@ mod program {
             ("run module form --output /dev/fd/3 3>&1 >/dev/null | cat", "bedacf"),
             ("asm text -o /dev/stdout | wc -c", "1024"),
             ("run module form --output - | true", ""),
+            ("run module form --output //dev/./stdout | cat", "bedacf"),
+            ("run module form --output /dev/fd/3 3>>redirected; cat redirected", "bedacf"),
         ] {
             let mut shell = Command::new("sh");
             shell.args(["-c", &format!("{program} {line}")]).current_dir(&folder);

@@ -5,7 +5,7 @@ use super::files::{
     MODULE_MAX, STANDARD,
 };
 use super::maps;
-use super::saved::no_state;
+use super::saved::no_save;
 use super::words::Choice;
 use super::{counted, print, put, Command, Outcome, Session, Words, DONE};
 use crate::file::Refusal;
@@ -43,7 +43,7 @@ fn asm(words: &Words, session: &mut Session) -> Outcome {
     let mut outputs = vec![("module", target)];
     outputs.extend(map.as_deref().map(|map| ("map", map)));
     distinct(&[("text", source)], &outputs)?;
-    no_state("module", target)?;
+    no_save("module", target)?;
     let text = read_text(source)?;
     let made = match words.flag("--unchecked") {
         true => assemble_unchecked(&text, source),

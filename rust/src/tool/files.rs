@@ -90,10 +90,12 @@ pub fn beside(name: &str, ending: &str) -> String {
 
 /// An output's name; standard output has several.
 pub fn output_name(name: &str) -> &str {
-    match name {
-        "/dev/stdout" | "/dev/fd/1" | "/proc/self/fd/1" => STANDARD,
-        _ => name,
+    let path: PathBuf = Path::new(name).components().collect();
+    let standard = ["/dev/stdout", "/dev/fd/1", "/proc/self/fd/1"];
+    if standard.iter().any(|other| path == Path::new(other)) {
+        return STANDARD;
     }
+    name
 }
 
 /// A file of a command: what it is to the command, and its name.
@@ -114,12 +116,16 @@ fn identity(name: &str) -> Result<Option<Identity>, String> {
     if name == STANDARD {
         return Ok(Some(Identity::Standard));
     }
-    let path = followed(name)?;
-    Ok(match std::fs::metadata(&path) {
+    Ok(match std::fs::metadata(name) {
         Ok(there) if there.is_file() => Some(Identity::There(there.dev(), there.ino())),
         Ok(_) => None,
-        Err(_) => Some(Identity::New(path)),
+        Err(_) => Some(Identity::New(followed(name)?)),
     })
+}
+
+/// Both names are of one file.
+pub fn same_file(left: &str, right: &str) -> bool {
+    matches!((identity(left), identity(right)), (Ok(Some(left)), Ok(Some(right))) if left == right)
 }
 
 /// Refuses an output that is one of the inputs or another output, whatever they are called, and one
@@ -185,14 +191,9 @@ fn writable(name: &str) -> Result<(), String> {
     }
 }
 
-/// The path is the kernel's name of a file that a process has open.
-fn open_file(path: &Path) -> bool {
-    path.starts_with("/proc") || path.starts_with("/dev/fd")
-}
-
 /// Where a name leads: through links, also where the last one leads to no file yet. The folder is
 /// resolved too, so that one place has one path.
-fn followed(name: &str) -> Result<PathBuf, String> {
+pub fn followed(name: &str) -> Result<PathBuf, String> {
     let mut path = PathBuf::from(name);
     // What is no file needs no path of its own: a link of /proc to a pipe leads to none.
     if std::fs::metadata(name).is_ok_and(|there| !there.is_file()) {
@@ -200,8 +201,10 @@ fn followed(name: &str) -> Result<PathBuf, String> {
     }
     for _ in 0..LINKS {
         match std::fs::read_link(&path) {
-            // The links of open files do not say where the file is now.
-            Ok(_) if open_file(&path) => return Ok(PathBuf::from(name)),
+            // The links of open files do not say where the file is now, nor where it is written.
+            Ok(_) if path.starts_with("/proc") || path.starts_with("/dev/fd") => {
+                return Err(format!("{name}: a file that is open already: say its own name, or -"));
+            }
             Ok(target) => path = folder(&path).join(target),
             Err(_) => {
                 let Some(last) = path.file_name() else { return Ok(path) };
@@ -288,9 +291,27 @@ fn renamed(from: &Path, to: &Path, bytes: &[u8]) -> std::io::Result<()> {
     }
 }
 
+/// Of a file that is written where it is the old bytes are cut off last: an output that is ahead of
+/// them is never without them.
 fn write_straight(path: &Path, bytes: &[u8]) -> std::io::Result<()> {
-    let mut file = OpenOptions::new().write(true).truncate(true).open(path)?;
-    file.write_all(bytes)
+    let mut file = OpenOptions::new().write(true).open(path)?;
+    file.write_all(bytes)?;
+    match file.metadata()?.is_file() {
+        true => file.set_len(bytes.len() as u64).and_then(|()| file.sync_all()),
+        false => Ok(()),
+    }
+}
+
+/// The folders of these files, held against every other run that saves there. Where a folder cannot
+/// be held the run saves all the same.
+pub fn hold(names: &[&str]) -> Vec<File> {
+    let mut folders: Vec<PathBuf> =
+        names.iter().filter_map(|name| Some(folder(&followed(name).ok()?).to_path_buf())).collect();
+    // In one order, so that two runs do not wait for each other.
+    folders.sort();
+    folders.dedup();
+    let open = folders.iter().filter_map(|folder| File::open(folder).ok());
+    open.inspect(|folder| drop(folder.lock())).collect()
 }
 
 fn way(output: &Output) -> std::io::Result<Way> {
@@ -304,9 +325,7 @@ fn way(output: &Output) -> std::io::Result<Way> {
         Err(error) => return Err(error),
     };
     // A file with a second name would lose it, and one with a list of who may read it that list.
-    let kept = |there: &Metadata| {
-        !there.is_file() || there.nlink() > 1 || open_file(&to) || has_access_list(&to)
-    };
+    let kept = |there: &Metadata| !there.is_file() || there.nlink() > 1 || has_access_list(&to);
     if there.as_ref().is_some_and(kept) {
         return Ok(Way::Straight(to));
     }

@@ -4,7 +4,7 @@
 use super::explain::Refused;
 use super::files::{read, FORM_MAX, MODULE_MAX, STANDARD};
 use super::json::Json;
-use super::kept::{Kept, Start};
+use super::kept::Kept;
 use super::maps::usable_map;
 use super::stops::Stopped;
 use super::trace::{traced, TRACE_MAX};
@@ -184,14 +184,17 @@ fn run(words: &Words, session: &mut Session) -> Outcome {
             if answer[0] == host::REFUSED {
                 return refused(&going, [kept.module, kept.module], answer, json, session);
             }
-            Start::opened(argument_text(&arguments))
+            kept.opened(argument_text(&arguments))?
         }
     };
     let before = going.state.clone();
     // Bytes that an earlier run has written are not here without its output.
     let known_from = if kept.output_file().is_some() { 0 } else { going.count() };
-    let went = going.go_in_slices(budget, session)?;
+    let mut went = going.go_in_slices(budget, session)?;
     if went.answer[0] == host::REFUSED {
+        if State::from_bytes(&going.state).is_ok_and(|state| state.status == state::ENDED) {
+            kept.over();
+        }
         let state = kept.saved().unwrap_or(kept.module);
         return refused(&going, [kept.module, state], went.answer, json, session);
     }
@@ -209,6 +212,11 @@ fn run(words: &Words, session: &mut Session) -> Outcome {
         true => traced(&module, names, &going, before, went.answer[2], trace, session)?,
         false => String::new(),
     };
+    // All is saved; only the trace has ended early.
+    let cut = traces && (session.interrupted)().is_some();
+    if cut {
+        went.interrupted = (session.interrupted)();
+    }
     let text = match json {
         true => format!("{}\n", answer_json(stopped.as_ref(), output, &went, &steps)),
         false => steps + &answer + &output_text(&kept, output, &went),
@@ -218,7 +226,9 @@ fn run(words: &Words, session: &mut Session) -> Outcome {
         Some(STANDARD) => print(session.error, &text)?,
         _ => print(session.out, &text)?,
     };
-    if went.interrupted.is_some() {
+    if cut {
+        session.say("interrupted: the trace is not whole");
+    } else if went.interrupted.is_some() {
         session.say(&interrupted_text(&kept, &went));
     }
     Ok(went.status())

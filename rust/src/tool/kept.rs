@@ -1,15 +1,17 @@
 //! The files of a run: those that it is given, the state and output that it goes on from, and what
-//! it saves. Each save leaves a state that can be gone on with, wherever it is broken off.
+//! it saves. Each save leaves a state that can be gone on with, wherever it is broken off, as long as
+//! its files are renamed to their places and not written there (`files.rs`).
 
 use super::files::{
-    beside, distinct, output_name, read, read_if_there, remove_if_there, standing, write, Output,
-    Role, OUTPUT_MAX, STANDARD, STATE_MAX,
+    beside, distinct, followed, hold, output_name, read, read_if_there, remove_if_there, same_file,
+    standing, write, Output, Role, OUTPUT_MAX, STANDARD, STATE_MAX,
 };
 use super::going::{Going, Went};
-use super::saved::{digest, no_state, Info, Known, Mark, INFO_ENDING, MARK_ENDING};
+use super::saved::{digest, no_save, Info, Known, Mark, INFO_ENDING, MARK_ENDING};
 use super::{explain, maps, Session, Words};
 use crate::host;
 use crate::state::STATE_BYTES;
+use crate::text::printable;
 use std::path::Path;
 
 /// The names that a run is given, and those beside them.
@@ -23,16 +25,11 @@ pub struct Kept<'w> {
 }
 
 /// What a run goes on from: the arguments that the module was opened with, as far as they are known,
-/// and the digest of the saved state, if there is one.
+/// and the digests of the state and the output that are there, if they are.
 pub struct Start {
-    pub arguments: Option<String>,
+    arguments: Option<String>,
     state: Option<String>,
-}
-
-impl Start {
-    pub fn opened(arguments: String) -> Start {
-        Start { arguments: Some(arguments), state: None }
-    }
+    output: Option<String>,
 }
 
 impl<'w> Kept<'w> {
@@ -43,6 +40,9 @@ impl<'w> Kept<'w> {
         let output = words.option("--output").map(output_name);
         if state.is_some_and(|name| name == STANDARD || !standing(name)) {
             return Err("--state wants a file: a state is read and written".to_string());
+        }
+        if state.is_some_and(|name| name != printable(name)) {
+            return Err("--state wants a name without control characters".to_string());
         }
         let mut kept = Kept { module, form, state, output, info: None, mark: None };
         kept.info = state.map(|name| beside(name, INFO_ENDING));
@@ -72,15 +72,26 @@ impl<'w> Kept<'w> {
             Info::beside(state)?;
         }
         let Some(output) = self.output_file() else { return Ok(()) };
-        no_state("output", output)?;
         let mark = Mark::beside(output)?;
-        let saved = mark.and_then(|mark| mark.state).filter(|state| Path::new(state).exists());
-        match saved {
-            Some(state) if self.saved().is_none() => Err(format!(
-                "{output} is the output of a run that is saved in {state}: go on with it \
-                 (--state {state}), or name another output"
+        let own = |saved: &str| self.state.is_some_and(|state| same_file(state, saved));
+        match mark.as_ref().and_then(Mark::goes_on_in) {
+            Some(saved) if own(saved) => Ok(()),
+            Some(saved) => Err(format!(
+                "{output} is the output of a run that is saved in {saved}: go on with it \
+                 (--state {saved}), or name another output"
             )),
-            _ => Ok(()),
+            None => no_save("output", output),
+        }
+    }
+
+    /// Of a run that is over the mark goes, if it was left there.
+    pub fn over(&self) {
+        if let (Some(output), Some(mark)) = (self.output_file(), &self.mark) {
+            let state = Mark::beside(output).ok().flatten().and_then(|mark| mark.state);
+            let own = |state: String| self.state.is_some_and(|own| same_file(own, &state));
+            if state.is_some_and(own) {
+                let _ = remove_if_there(mark);
+            }
         }
     }
 
@@ -94,6 +105,17 @@ impl<'w> Kept<'w> {
         self.output.filter(|name| *name != STANDARD && standing(name))
     }
 
+    /// The start of a run that is opened with these arguments.
+    pub fn opened(&self, arguments: String) -> Result<Start, String> {
+        Ok(Start { arguments: Some(arguments), state: None, output: self.output_now()? })
+    }
+
+    /// The digest of the output as it is.
+    fn output_now(&self) -> Result<Option<String>, String> {
+        let Some(name) = self.output_file() else { return Ok(None) };
+        Ok(read_if_there(name, OUTPUT_MAX)?.map(|bytes| digest(&bytes)))
+    }
+
     /// Takes a saved state and the output so far, which is not in the state.
     pub fn restore(
         &self,
@@ -103,16 +125,16 @@ impl<'w> Kept<'w> {
         session: &mut Session,
     ) -> Result<Start, String> {
         going.state = read(name, STATE_MAX)?;
-        let state = Some(digest(&going.state));
+        let (state, output) = (Some(digest(&going.state)), self.output_now()?);
         if going.state.len() != STATE_BYTES {
-            return Ok(Start { arguments: None, state }); // which the call refuses
+            return Ok(Start { arguments: None, state, output }); // which the call refuses
         }
         let Some(info) = Info::beside(name)? else {
             if arguments.is_some() {
                 session.say(&format!("{name} is a saved state: --arguments is not looked at"));
             }
             self.take_output(name, None, going)?;
-            return Ok(Start { arguments: None, state });
+            return Ok(Start { arguments: None, state, output });
         };
         self.belongs(name, &info, going)?;
         match (&arguments, &info.arguments) {
@@ -123,7 +145,7 @@ impl<'w> Kept<'w> {
             _ => (),
         }
         self.take_output(name, Some(&info), going)?;
-        Ok(Start { arguments: info.arguments, state })
+        Ok(Start { arguments: info.arguments, state, output })
     }
 
     /// The state is the one that was saved with this info, for this module and this form.
@@ -165,7 +187,8 @@ impl<'w> Kept<'w> {
         };
         let written = going.written().len();
         let bytes = read_if_there(output, OUTPUT_MAX)?.unwrap_or_default();
-        if bytes.len() < written {
+        // Nobody knows what a longer file has behind these bytes where nothing says whose it is.
+        if bytes.len() < written || info.is_none() && bytes.len() > written {
             let length = bytes.len();
             return Err(format!(
                 "{output} has {length} bytes, but {name} has written {written}: take both from one \
@@ -192,6 +215,8 @@ impl<'w> Kept<'w> {
         start: Start,
         session: &mut Session,
     ) -> Result<(), String> {
+        let names: Vec<&str> = self.state.into_iter().chain(self.output_file()).collect();
+        let _held = hold(&names);
         self.unchanged(&start)?;
         let state = digest(&going.state);
         let info = Info {
@@ -202,7 +227,8 @@ impl<'w> Kept<'w> {
             arguments: start.arguments,
             output: self.output_file().map(|name| (output.len(), Known::new(name, output))),
         };
-        let mark = Mark { says: mark_text(went), state: self.state.map(str::to_string) };
+        let place = |name: &str| followed(name).map(|path| path.display().to_string());
+        let mark = Mark { says: mark_text(went), state: self.state.map(place).transpose()? };
         let (info, mark) = (info.text(), mark.text());
         let mut files = Vec::new();
         if went.partial() {
@@ -220,13 +246,19 @@ impl<'w> Kept<'w> {
         Ok(())
     }
 
-    /// Nobody has saved to the state since it was read.
+    /// Nobody has saved to the state, or to the output, since they were read.
     fn unchanged(&self, start: &Start) -> Result<(), String> {
-        let Some(name) = self.state else { return Ok(()) };
-        let now = read_if_there(name, STATE_MAX)?.map(|bytes| digest(&bytes));
-        match now == start.state {
-            true => Ok(()),
-            false => Err(format!("{name} has changed since: another run has saved to it")),
+        let changed =
+            |name: &str| Err(format!("{name} has changed since: another run has saved to it"));
+        if let Some(name) = self.state {
+            let now = read_if_there(name, STATE_MAX)?.map(|bytes| digest(&bytes));
+            if now != start.state {
+                return changed(name);
+            }
+        }
+        match self.output_file() {
+            Some(name) if self.output_now()? != start.output => changed(name),
+            _ => Ok(()),
         }
     }
 }

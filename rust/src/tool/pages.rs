@@ -7,7 +7,7 @@ use super::files::{beside, distinct, output_name, read, write, Output, MODULE_MA
 use super::heap::{Field, Heap, Object, Region};
 use super::maps::{self, usable_map};
 use super::picture::picture;
-use super::saved::{no_state, INFO_ENDING};
+use super::saved::{no_save, INFO_ENDING};
 use super::standing::Standing;
 use super::words::{number, Choice};
 use super::{counted, explain, print, Command, Outcome, Session, Words, DONE, REFUSED};
@@ -79,7 +79,7 @@ fn pages(words: &Words, session: &mut Session) -> Outcome {
         ("state's info", &info),
     ];
     distinct(&inputs, &outputs)?;
-    picture_name.map_or(Ok(()), |name| no_state("picture", name))?;
+    picture_name.map_or(Ok(()), |name| no_save("picture", name))?;
     let (file, bytes) = (read(module_name, MODULE_MAX)?, read(state_name, STATE_MAX)?);
     let addresses = words.all("--address").map(|word| number("--address", word));
     let addresses = addresses.collect::<Result<Vec<u32>, String>>()?;

@@ -4,6 +4,7 @@
 
 use super::files::{beside, read_if_there};
 use crate::digest::{hex, sha256};
+use crate::state::{RUNNING, STATE_BYTES};
 use crate::text::printable;
 
 /// The first lines of the two files.
@@ -107,10 +108,19 @@ fn known(text: &str) -> Option<Known> {
     Some(Known { digest: hash(digest)?, name: printable(name) })
 }
 
-/// A file that is to be written is no saved state.
-pub fn no_state(what: &str, name: &str) -> Result<(), String> {
-    match Info::beside(name) {
-        Ok(Some(_)) => Err(format!("the {what} {name} is a saved state: it would be overwritten")),
+/// A file that is to be written over is no part of a run that is saved: neither its state, nor its
+/// output, nor what stands beside them.
+pub fn no_save(what: &str, name: &str) -> Result<(), String> {
+    let of_save = |part: &str| Err(format!("the {what} {name} is {part}: it would be overwritten"));
+    if let Ok(Some(_)) = Info::beside(name) {
+        return of_save("a saved state");
+    }
+    if let Some(state) = Mark::beside(name).ok().flatten().as_ref().and_then(Mark::goes_on_in) {
+        return of_save(&format!("the output of the run that is saved in {state}"));
+    }
+    match read_if_there(name, STATE_BYTES) {
+        Ok(Some(bytes)) if bytes.starts_with(INFO_HEAD.as_bytes()) => of_save("a state's info"),
+        Ok(Some(bytes)) if bytes.starts_with(MARK_HEAD.as_bytes()) => of_save("an output's mark"),
         _ => Ok(()),
     }
 }
@@ -127,6 +137,13 @@ impl Mark {
     pub fn text(&self) -> String {
         let state = self.state.as_ref().map(|name| format!("state {}\n", printable(name)));
         format!("{MARK_HEAD}\n{}\n{}", self.says, state.unwrap_or_default())
+    }
+
+    /// The state that the run goes on from, where it is there and not over.
+    pub fn goes_on_in(&self) -> Option<&str> {
+        let state = self.state.as_deref()?;
+        let bytes = read_if_there(state, STATE_BYTES).ok()??;
+        (bytes.first() == Some(&RUNNING)).then_some(state)
     }
 
     fn parse(text: &str) -> Option<Mark> {
