@@ -440,8 +440,15 @@ mod program {
 
     const ENDLESS: &str = "fn f() -> i32 {\n reg n, one: i32\n reg b: i8\n one = 1\n b = 'x'\n output b\nagain:\n n = n + one\n goto again\n}";
 
+    /// Steps that take so long that a signal comes before their end, and not for ever without one.
+    const LONG: &str = "20000000000";
+
+    /// The program, with the actions of its signals as a shell gives them: whoever runs the tests
+    /// behind a shell's back may ignore some, and the program then ignores them too.
     fn spawn(folder: &Path, line: &str) -> Child {
-        Command::new(env!("CARGO_BIN_EXE_rcm"))
+        Command::new("env")
+            .args(["--default-signal=HUP", "--default-signal=INT", "--default-signal=TERM"])
+            .arg(env!("CARGO_BIN_EXE_rcm"))
             .args(line.split_whitespace())
             .current_dir(folder)
             .stdin(Stdio::piped())
@@ -457,10 +464,25 @@ mod program {
         child.wait_with_output().expect("its end")
     }
 
+    /// Waits until a run has begun: from then on the program has an action for its signals.
+    fn begun(child: &Child) {
+        const INTERRUPT: u64 = 1 << 1;
+        let status = format!("/proc/{}/status", child.id());
+        for _ in 0..1000 {
+            let text = fs::read_to_string(&status).expect("a process");
+            let caught = text.lines().find_map(|line| line.strip_prefix("SigCgt:\t"));
+            let caught = caught.and_then(|word| u64::from_str_radix(word, 16).ok());
+            if caught.expect("the signals") & INTERRUPT != 0 {
+                return;
+            }
+            std::thread::sleep(Duration::from_millis(20));
+        }
+        panic!("the run does not begin");
+    }
+
     fn signalled(folder: &Path, line: &str, signal: &str) -> (Option<i32>, String, String) {
         let child = spawn(folder, line);
-        // Long enough for the run to have begun, short beside its budget.
-        std::thread::sleep(Duration::from_millis(400));
+        begun(&child);
         let killed = Command::new("kill").args([signal, &child.id().to_string()]).status();
         assert!(killed.is_ok_and(|status| status.success()));
         let output = child.wait_with_output().expect("its end");
@@ -479,7 +501,7 @@ mod program {
         let folder = folder("signals");
         fs::write(folder.join("text"), ENDLESS).expect("a text");
         good(&folder, "asm @text -o @module", DONE);
-        let line = "run module form --budget 1000000000000 --state state --output list";
+        let line = &format!("run module form --budget {LONG} --state state --output list");
         let mut before = 0;
         for (signal, status) in [("-TERM", 143), ("-INT", 130)] {
             let (code, out, error) = signalled(&folder, line, signal);
@@ -496,7 +518,8 @@ mod program {
         // Exactly the steps that were counted have been done.
         good(&folder, "run @module @form --budget 6 --state @state --output @list", RUNNING);
         assert_eq!(reached(&folder), before + 3);
-        let (code, _, error) = signalled(&folder, "run module form --budget 1000000000000", "-HUP");
+        let shown = &format!("run module form --budget {LONG}");
+        let (code, _, error) = signalled(&folder, shown, "-HUP");
         assert_eq!(code, Some(129));
         assert!(error.contains("without --state they are lost"), "{error}");
     }
@@ -519,9 +542,8 @@ mod program {
         }
         fs::remove_file(folder.join("state")).expect("the state");
         good(&folder, "run @module @form --budget 10 --state @state", RUNNING);
-        let line = "run module form --budget 1000000000000 --state state";
-        let child = spawn(&folder, line);
-        std::thread::sleep(Duration::from_millis(300));
+        let child = spawn(&folder, &format!("run module form --budget {LONG} --state state"));
+        begun(&child);
         good(&folder, "run @module @form --budget 20 --state @state", RUNNING);
         let saved = fs::read(folder.join("state")).expect("the state");
         let killed = Command::new("kill").args(["-INT", &child.id().to_string()]).status();
