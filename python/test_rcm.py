@@ -19,6 +19,15 @@ FORM = (FILES / "form").read_bytes()
 LIST = b"bedacf"
 
 
+def in_threads(work, count):
+    """Does the work in so many threads at once, and waits for all."""
+    threads = [threading.Thread(target=work) for _ in range(count)]
+    for thread in threads:
+        thread.start()
+    for thread in threads:
+        thread.join()
+
+
 class Checking(unittest.TestCase):
     def test_verdict(self):
         self.assertEqual(rcm.check(SUM), rcm.Verdict(types=1, structs=0, functions=1, instructions=2))
@@ -114,11 +123,7 @@ class Running(unittest.TestCase):
                 pass
             outputs.append(run.output)
 
-        threads = [threading.Thread(target=rank) for _ in range(8)]
-        for thread in threads:
-            thread.start()
-        for thread in threads:
-            thread.join()
+        in_threads(rank, 8)
         self.assertEqual(outputs, [LIST] * 8)
 
     def test_one_run_in_two_threads(self):
@@ -135,11 +140,7 @@ class Running(unittest.TestCase):
             except rcm.Refused as late:
                 refused.append(late.number)
 
-        threads = [threading.Thread(target=share) for _ in range(2)]
-        for thread in threads:
-            thread.start()
-        for thread in threads:
-            thread.join()
+        in_threads(share, 2)
         self.assertEqual((sum(steps), run.status, run.result), (whole.steps, "ended", whole.value))
         self.assertLessEqual(set(refused), {22})
 

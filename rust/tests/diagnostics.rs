@@ -3,7 +3,7 @@
 
 mod common;
 
-use common::{new_folder, rcm_in, repository};
+use common::{files, new_folder, rcm_in, repository};
 use reference::digest::{hex, sha256};
 use reference::module::decode;
 use reference::text::{assemble, assemble_all, assemble_unchecked, report, Error, Map};
@@ -496,14 +496,6 @@ fn marks_and_odd_characters() {
     let good = text.replace("\u{1b}[2J", "5");
     let plain = good.trim_start_matches('\u{feff}').replace('\r', "");
     assert!(assemble(&good).expect("a good text") == assemble(&plain).expect("a good text"));
-}
-
-fn files(folder: &Path) -> Vec<String> {
-    let entries = std::fs::read_dir(folder).expect("a folder").flatten();
-    let mut names: Vec<String> =
-        entries.map(|entry| entry.file_name().to_string_lossy().to_string()).collect();
-    names.sort();
-    names
 }
 
 #[test]

@@ -4,7 +4,7 @@
 
 mod common;
 
-use common::{json, new_folder, rcm_in, repository};
+use common::{files, json, new_folder, rcm_in, repository};
 use reference::tool::{BAD_INPUT, COMMANDS, DONE, REFUSED, RUNNING, STOPPED};
 use std::path::{Path, PathBuf};
 use std::process::Command;
@@ -27,15 +27,6 @@ fn example(folder: &Path, name: &str) {
     let (status, _, error) = rcm(folder, &format!("asm {source} -o @module --unchecked --no-map"));
     assert_eq!(status, DONE, "{error}");
     std::fs::write(folder.join("form"), []).expect("a form");
-}
-
-/// The names of a folder's files.
-fn files(folder: &Path) -> Vec<String> {
-    let entries = std::fs::read_dir(folder).expect("a folder").flatten();
-    let mut names: Vec<String> =
-        entries.map(|entry| entry.file_name().to_string_lossy().to_string()).collect();
-    names.sort();
-    names
 }
 
 #[test]
