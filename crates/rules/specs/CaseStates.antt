@@ -2,7 +2,7 @@
 use mathlib.Core.List.{List, [], _∷_}
 use Prim.Native.Nat.{ℕ}
 use lib.ListN.{length, getD}
-use Rattle.rules.specs.Types.{RegionKind, variable, region, Tree, int, ptr, arr, struct}
+use Rattle.rules.specs.Types.{RegionKind, variable, region, Tree, int, ptr, arr, struct, rawPtr, bytes}
 use Rattle.rules.specs.Module.{Instruction, call, Function, Module}
 use Rattle.rules.specs.State.{allPages, View}
 use Rattle.rules.specs.Step.{Effect, effectOf}
@@ -83,6 +83,12 @@ cells code = moduleWith (byteAndWord ∷ wordAndByte ∷ [])
 abbrev pub rows : List Instruction → Module
 rows code = moduleWith [] (functionWith 0 1 (arr 3 (int 4) ∷ []) 0 (to (arr 3 (int 4)) ∷ to (int 4) ∷ int 4 ∷ []) code ∷ [])
 
+-- Two local regions, the first untyped, the second of i32. Registers 0 and 1 untyped pointers to 4 and 3 bytes in the first, 2 i32, 3 i8,
+-- 4 a pointer to i8 in the untyped region, 5 an untyped one into the typed region, 6 a pointer to i32 in the second
+abbrev pub blobs : List Instruction → Module
+blobs code = moduleWith []
+    (functionWith 0 2 (bytes ∷ int 4 ∷ []) 0 (rawPtr 4 (region 0) ∷ rawPtr 3 (region 0) ∷ int 4 ∷ int 1 ∷ to (int 1) ∷ rawPtr 4 (region 1) ∷ ptr (int 4) (region 1) ∷ []) code ∷ [])
+
 -- ---- states, as the accessors give them
 
 pub record Frame : Type 0 where
@@ -141,3 +147,14 @@ inRows i registers = effectOf (rows (i ∷ [])) [] (oneFrame registers)
 unfoldable pub inPair : Tree variable → (j i : Instruction) → List ℕ → ℕ → Effect
 inPair T j i registers r =
     effectOf (pair T (j ∷ []) (i ∷ [])) [] (stateOf (frame 0 0 [] (0 ∷ []) ∷ frame 1 0 registers (r ∷ []) ∷ []) (0 ∷ 1 ∷ 2 ∷ []))
+
+-- of `blobs`: the untyped region is live region 3 and has page 1, the typed one is 1 and has page 2
+abbrev pub blobFrame : List ℕ → Frame
+blobFrame registers = frame 0 0 registers (3 ∷ 1 ∷ [])
+
+abbrev pub blobState : List ℕ → View
+blobState registers = stateOf (blobFrame registers ∷ []) (0 ∷ 4 ∷ 2 ∷ [])
+
+-- the step of instruction i there
+unfoldable pub inBlobs : Instruction → List ℕ → Effect
+inBlobs i registers = effectOf (blobs (i ∷ [])) [] (blobState registers)

@@ -12,8 +12,8 @@ use Rattle.rules.specs.Flat.{size}
 use Rattle.words.specs.Bytes.{number, little, listFrom}
 use Rattle.words.specs.First.{firstFrom, first, sumBelow}
 use Rattle.words.specs.Decide.{decBoth, decEither, decImp, decAll, decThe, mapDec, decList, decEach}
-use Rattle.rules.specs.Decision.{asInt, asPtr, asArr, decReg, withInt, withPtr, anInt, aPtr, decConstant, decCopy, decOperate, decZero, decSigned, decAddress, decCheck, decField, decIndex, decThrough, decLoad, decStore, decWhole, decNew, decFree, decInput, decOutput, decJump, decBranch, decCall, decReturn, decTyped}
-use Rattle.rules.specs.Decode.{regionBytes, treeOf, treesOf, fieldsOf, places, codePlaces, callOf, arithmeticOf, memoryOf, controlOf, byGroup, instructionOf, codeOf, functionOf, moduleOf, startOf, instructionAt}
+use Rattle.rules.specs.Decision.{asInt, asPtr, asArr, asRaw, decAnAddress, decReg, withInt, withPtr, withRaw, anInt, aPtr, aRaw, decUntyped, decConstant, decCopy, decOperate, decZero, decSigned, decAddress, decCheck, decField, decIndex, decThrough, decLoad, decStore, decWhole, decNew, decFree, decInput, decOutput, decJump, decBranch, decCall, decReturn, decNewBytes, decLoadByte, decStoreByte, decCheckBytes, decTyped}
+use Rattle.rules.specs.Decode.{regionBytes, treeOf, treesOf, fieldsOf, places, codePlaces, callOf, arithmeticOf, memoryOf, controlOf, byGroup, instructionOf, codeOf, functionOf, regionTypeOf, moduleOf, startOf, instructionAt}
 use Rattle.rules.specs.File.{checkSum, blockTest, records, recordStart, recordOf, groupOf}
 use Rattle.rules.specs.Flat.{decPlaced, decPrims, beside, copiesOf, copies, subLayout, flatWith, fieldsFrom, fieldsWith, layouts, flat, structFlat, decRun, decSame}
 use Rattle.rules.specs.Operands.{operandTable, classesOf, operandFits}
@@ -148,7 +148,7 @@ table =
     []
 
 pub agrees : Agree table
-unfolding number little listFrom firstFrom first sumBelow decBoth decEither decImp decAll decThe mapDec decList decEach asInt asPtr asArr decReg withInt withPtr anInt aPtr decConstant decCopy decOperate decZero decSigned decAddress decCheck decField decIndex decThrough decLoad decStore decWhole decNew decFree decInput decOutput decJump decBranch decCall decReturn decTyped regionBytes treeOf treesOf fieldsOf places codePlaces callOf arithmeticOf memoryOf controlOf byGroup instructionOf codeOf functionOf moduleOf startOf instructionAt checkSum blockTest records recordStart recordOf groupOf decPlaced decPrims beside copiesOf copies subLayout flatWith fieldsFrom fieldsWith layouts flat structFlat decRun decSame operandTable classesOf operandFits along quickRecords quickOf four seven fourLoose sevenLoose termFits nameFits headRanges functionFits listFits regionBytesFit instructionFits argumentsFit fitsIn fits recordTestWith verdict decRegion sub decTree decUses decPrimitive termTest structTest functionTest instructionTest instructionStage lastTest moduleStages instructions moduleRules toCode toRegisters opened done toFunction toName step next nextScan scan whole decCounts decTerm decStruct scopeOf decFunction decEntry decLast ℕ-discrete decLt decLe recordsBytes fileOf file workedRecords worked largestTerm byteMore
+unfolding number little listFrom firstFrom first sumBelow decBoth decEither decImp decAll decThe mapDec decList decEach asInt asPtr asArr asRaw decAnAddress decReg withInt withPtr withRaw anInt aPtr aRaw decUntyped decConstant decCopy decOperate decZero decSigned decAddress decCheck decField decIndex decThrough decLoad decStore decWhole decNew decFree decInput decOutput decJump decBranch decCall decReturn decNewBytes decLoadByte decStoreByte decCheckBytes decTyped regionBytes treeOf treesOf fieldsOf places codePlaces callOf arithmeticOf memoryOf controlOf byGroup instructionOf codeOf functionOf regionTypeOf moduleOf startOf instructionAt checkSum blockTest records recordStart recordOf groupOf decPlaced decPrims beside copiesOf copies subLayout flatWith fieldsFrom fieldsWith layouts flat structFlat decRun decSame operandTable classesOf operandFits along quickRecords quickOf four seven fourLoose sevenLoose termFits nameFits headRanges functionFits listFits regionBytesFit instructionFits argumentsFit fitsIn fits recordTestWith verdict decRegion sub decTree decUses decPrimitive termTest structTest functionTest instructionTest instructionStage lastTest moduleStages instructions moduleRules toCode toRegisters opened done toFunction toName step next nextScan scan whole decCounts decTerm decStruct scopeOf decFunction decEntry decLast ℕ-discrete decLt decLe recordsBytes fileOf file workedRecords worked largestTerm byteMore
 agrees = agree table refl
 
 -- of these, C3's two

@@ -20,7 +20,7 @@ use Rattle.rules.specs.State.{allPages, View, view, memoryNumber, frameP
 use Rattle.rules.specs.CaseStates.{functionWith, moduleWith, wordAndPointer, to, named, Frame, frame, allBut, stateIn, stateOf}
 use Rattle.rules.specs.StateTest.{Passes, decPasses, decListed, decStatus, decChained, decFrames, decPage, decContents, decMarksEnd, decSpare}
 use Rattle.rules.specs.Flat.{decPlaced, decPrims, beside, copiesOf, copies, subLayout, flatWith, fieldsFrom, fieldsWith, layouts, flat, decRun, positionAt}
-use Rattle.rules.specs.Heap.{decLocal, decLive, look, typeOf, decStands, decValue}
+use Rattle.rules.specs.Heap.{decLocal, decLive, look, typeOf, decStands, decInUntyped, decValue}
 use Rattle.rules.specs.Step.{decIsCall, decStandsAtCall}
 use Rattle.rules.specs.Decode.{moduleOf}
 use Rattle.rules.specs.Verdict.{verdictOf}
@@ -121,7 +121,7 @@ pub record StatusTests : Type 0 where
   pub other : statusPasses 2 1 0 ≡ false
 
 pub statusTests : StatusTests
-unfolding firstFrom first decBoth decEither decImp decNot decAll decAny mapDec decList decEach decRegion sub decTree decPlaced decPrims beside copiesOf copies subLayout flatWith fieldsFrom fieldsWith layouts flat decRun positionAt decLocal decLive look typeOf decStands decValue memoryNumber decIsCall decStandsAtCall decListed decStatus decChained decFrames decPage decContents decMarksEnd decSpare statusPasses framesPass contentsPass sparePasses ℕ-discrete decLt decLe
+unfolding firstFrom first decBoth decEither decImp decNot decAll decAny mapDec decList decEach decRegion sub decTree decPlaced decPrims beside copiesOf copies subLayout flatWith fieldsFrom fieldsWith layouts flat decRun positionAt decLocal decLive look typeOf decStands decInUntyped decValue memoryNumber decIsCall decStandsAtCall decListed decStatus decChained decFrames decPage decContents decMarksEnd decSpare statusPasses framesPass contentsPass sparePasses ℕ-discrete decLt decLe
 statusTests = record {
   running = refl;
   running-no-frame = refl;
@@ -164,7 +164,7 @@ pub record FrameTests : Type 0 where
   pub region-112 : framesPass (lower ∷ frame 1 0 [] (5 ∷ 112 ∷ []) ∷ []) ≡ false
 
 pub frameTests : FrameTests
-unfolding firstFrom first decBoth decEither decImp decNot decAll decAny mapDec decList decEach decRegion sub decTree decPlaced decPrims beside copiesOf copies subLayout flatWith fieldsFrom fieldsWith layouts flat decRun positionAt decLocal decLive look typeOf decStands decValue memoryNumber decIsCall decStandsAtCall decListed decStatus decChained decFrames decPage decContents decMarksEnd decSpare statusPasses framesPass contentsPass sparePasses ℕ-discrete decLt decLe
+unfolding firstFrom first decBoth decEither decImp decNot decAll decAny mapDec decList decEach decRegion sub decTree decPlaced decPrims beside copiesOf copies subLayout flatWith fieldsFrom fieldsWith layouts flat decRun positionAt decLocal decLive look typeOf decStands decInUntyped decValue memoryNumber decIsCall decStandsAtCall decListed decStatus decChained decFrames decPage decContents decMarksEnd decSpare statusPasses framesPass contentsPass sparePasses ℕ-discrete decLt decLe
 frameTests = record {
   chain = refl;
   one-frame = refl;
@@ -206,7 +206,7 @@ pub record ContentTests : Type 0 where
   pub primitive-free : contentsPass (both) (owners) ([]) (replicate 252 0 ++ 0 ∷ 2 ∷ 0 ∷ 0 ∷ []) ≡ false
 
 pub contentTests : ContentTests
-unfolding firstFrom first decBoth decEither decImp decNot decAll decAny mapDec decList decEach decRegion sub decTree decPlaced decPrims beside copiesOf copies subLayout flatWith fieldsFrom fieldsWith layouts flat decRun positionAt decLocal decLive look typeOf decStands decValue memoryNumber decIsCall decStandsAtCall decListed decStatus decChained decFrames decPage decContents decMarksEnd decSpare statusPasses framesPass contentsPass rangePasses sparePasses ℕ-discrete decLt decLe
+unfolding firstFrom first decBoth decEither decImp decNot decAll decAny mapDec decList decEach decRegion sub decTree decPlaced decPrims beside copiesOf copies subLayout flatWith fieldsFrom fieldsWith layouts flat decRun positionAt decLocal decLive look typeOf decStands decInUntyped decValue memoryNumber decIsCall decStandsAtCall decListed decStatus decChained decFrames decPage decContents decMarksEnd decSpare statusPasses framesPass contentsPass rangePasses sparePasses ℕ-discrete decLt decLe
 contentTests = record {
   contents = refl;
   page-0-owned = refl;
@@ -235,7 +235,7 @@ pub record SpareTests : Type 0 where
   pub mark-past-words : sparePasses both 2 ([] ∷ [] ∷ (replicate 64 0 ++ 1 ∷ []) ∷ []) ≡ false
 
 pub spareTests : SpareTests
-unfolding firstFrom first decBoth decEither decImp decNot decAll decAny mapDec decList decEach decRegion sub decTree decPlaced decPrims beside copiesOf copies subLayout flatWith fieldsFrom fieldsWith layouts flat decRun positionAt decLocal decLive look typeOf decStands decValue memoryNumber decIsCall decStandsAtCall decListed decStatus decChained decFrames decPage decContents decMarksEnd decSpare statusPasses framesPass contentsPass sparePasses ℕ-discrete decLt decLe
+unfolding firstFrom first decBoth decEither decImp decNot decAll decAny mapDec decList decEach decRegion sub decTree decPlaced decPrims beside copiesOf copies subLayout flatWith fieldsFrom fieldsWith layouts flat decRun positionAt decLocal decLive look typeOf decStands decInUntyped decValue memoryNumber decIsCall decStandsAtCall decListed decStatus decChained decFrames decPage decContents decMarksEnd decSpare statusPasses framesPass contentsPass sparePasses ℕ-discrete decLt decLe
 spareTests = record {
   spare = refl;
   function-behind = refl;

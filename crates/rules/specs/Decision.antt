@@ -7,11 +7,11 @@ use Prim.Native.Nat.{ℕ, _^_, _<_, _≤_}
 use native.Mathlib.Decide.{ℕ-discrete, decLt, decLe}
 use native.Mathlib.Omega.{arith}
 use Rattle.words.specs.Decide.{mapDec, decBoth, decEither, decAll, decThe}
-use Rattle.rules.specs.Types.{variable, Variable, region, decRegion, Tree, int, ptr, arr, struct, sub, arg, form, decTree}
-use Rattle.rules.specs.Module.{Module, Function, regions, argument, Instruction, constant, copy, operate, zeroExtend, signExtend, address, check, field, index, load, store, new, free, input, output, jump, branch, call, return}
+use Rattle.rules.specs.Types.{variable, Variable, region, decRegion, Tree, int, ptr, arr, struct, rawPtr, bytes, sub, arg, form, decTree}
+use Rattle.rules.specs.Module.{Module, Function, regions, argument, Instruction, constant, copy, operate, zeroExtend, signExtend, address, check, field, index, load, store, new, free, input, output, jump, branch, call, return, newBytes, loadByte, storeByte, checkBytes}
 use Rattle.rules.specs.Flat.{Run, Same, decRun, decSame, flat}
 use Rattle.rules.specs.Operands.{signedQuotient, lastOperation}
-use Rattle.rules.specs.Typing.{_⊢_∶_, Typed, t-constant, t-copy, t-operate, t-quotient, t-compare, t-zeroExtend, t-signExtend, t-address, t-checkInteger, t-checkPointer, t-field, t-index, t-load, t-store, t-new, t-free, t-input, t-output, t-jump, t-branch, t-call, t-return}
+use Rattle.rules.specs.Typing.{_⊢_∶_, Untyped, AnAddress, Typed, t-constant, t-copy, t-operate, t-quotient, t-compare, t-zeroExtend, t-signExtend, t-address, t-addressBytes, t-checkInteger, t-checkPointer, t-field, t-index, t-load, t-store, t-new, t-free, t-input, t-output, t-jump, t-branch, t-call, t-return, t-newBytes, t-loadByte, t-storeByte, t-checkBytes}
 
 -- ---- forms of a tree
 
@@ -29,6 +29,11 @@ pub record IsArr (T : Tree variable) : Type 0 where
   pub element : Tree variable
   pub is : T ≡ arr n element
 
+pub record IsRaw (T : Tree variable) : Type 0 where
+  pub n : ℕ
+  pub region : Variable
+  pub is : T ≡ rawPtr n region
+
 pub differ : (T U : Tree variable) → form T ≢ form U → T ≢ U
 differ T U n e = n (ap form e)
 
@@ -37,18 +42,41 @@ asInt (int w) = yes (record { w = w; is = refl })
 asInt (ptr T r) = no (λ h. differ (ptr T r) (int (h .w)) (λ e. omega arith) (h .is))
 asInt (arr n T) = no (λ h. differ (arr n T) (int (h .w)) (λ e. omega arith) (h .is))
 asInt (struct N rs) = no (λ h. differ (struct N rs) (int (h .w)) (λ e. omega arith) (h .is))
+asInt (rawPtr n r) = no (λ h. differ (rawPtr n r) (int (h .w)) (λ e. omega arith) (h .is))
+asInt bytes = no (λ h. differ bytes (int (h .w)) (λ e. omega arith) (h .is))
 
 unfoldable pub asPtr : (T : Tree variable) → Dec (IsPtr T)
 asPtr (int w) = no (λ h. differ (int w) (ptr (h .target) (h .region)) (λ e. omega arith) (h .is))
 asPtr (ptr T r) = yes (record { target = T; region = r; is = refl })
 asPtr (arr n T) = no (λ h. differ (arr n T) (ptr (h .target) (h .region)) (λ e. omega arith) (h .is))
 asPtr (struct N rs) = no (λ h. differ (struct N rs) (ptr (h .target) (h .region)) (λ e. omega arith) (h .is))
+asPtr (rawPtr n r) = no (λ h. differ (rawPtr n r) (ptr (h .target) (h .region)) (λ e. omega arith) (h .is))
+asPtr bytes = no (λ h. differ bytes (ptr (h .target) (h .region)) (λ e. omega arith) (h .is))
 
 unfoldable pub asArr : (T : Tree variable) → Dec (IsArr T)
 asArr (int w) = no (λ h. differ (int w) (arr (h .n) (h .element)) (λ e. omega arith) (h .is))
 asArr (ptr T r) = no (λ h. differ (ptr T r) (arr (h .n) (h .element)) (λ e. omega arith) (h .is))
 asArr (arr n T) = yes (record { n = n; element = T; is = refl })
 asArr (struct N rs) = no (λ h. differ (struct N rs) (arr (h .n) (h .element)) (λ e. omega arith) (h .is))
+asArr (rawPtr n r) = no (λ h. differ (rawPtr n r) (arr (h .n) (h .element)) (λ e. omega arith) (h .is))
+asArr bytes = no (λ h. differ bytes (arr (h .n) (h .element)) (λ e. omega arith) (h .is))
+
+unfoldable pub asRaw : (T : Tree variable) → Dec (IsRaw T)
+asRaw (int w) = no (λ h. differ (int w) (rawPtr (h .n) (h .region)) (λ e. omega arith) (h .is))
+asRaw (ptr T r) = no (λ h. differ (ptr T r) (rawPtr (h .n) (h .region)) (λ e. omega arith) (h .is))
+asRaw (arr n T) = no (λ h. differ (arr n T) (rawPtr (h .n) (h .region)) (λ e. omega arith) (h .is))
+asRaw (struct N rs) = no (λ h. differ (struct N rs) (rawPtr (h .n) (h .region)) (λ e. omega arith) (h .is))
+asRaw (rawPtr n r) = yes (record { n = n; region = r; is = refl })
+asRaw bytes = no (λ h. differ bytes (rawPtr (h .n) (h .region)) (λ e. omega arith) (h .is))
+
+-- the types that kind 39 takes
+unfoldable pub decAnAddress : (T : Tree variable) → Dec (AnAddress T)
+decAnAddress (int w) = ℕ-discrete w 4
+decAnAddress (ptr T r) = yes tt
+decAnAddress (arr n T) = no (λ h. h)
+decAnAddress (struct N rs) = no (λ h. h)
+decAnAddress (rawPtr n r) = yes tt
+decAnAddress bytes = no (λ h. h)
 
 -- ---- registers
 
@@ -69,11 +97,26 @@ withPtr f b P is dec = elim (asPtr (f .registerType b)) [
   | no n ↦ no (λ h. n (record { target = h .0; region = h .1 .0; is = is (h .0) (h .1 .0) (h .1 .1) }))
 ]
 
+-- a rule that names the bytes and the region of untyped pointer register b
+unfoldable pub withRaw : (f : Function) (b : ℕ) (P : ℕ → Variable → Type 0) → ((n : ℕ) (r : Variable) → P n r → f .registerType b ≡ rawPtr n r) → ((n : ℕ) (r : Variable) → Dec (P n r)) → Dec ((n : ℕ) × ((r : Variable) × P n r))
+withRaw f b P is dec = elim (asRaw (f .registerType b)) [
+  | yes i ↦ decThe (i .n) (λ n h. cc (is n (h .0) (h .1), i .is)) (decThe (i .region) (λ r h. cc (is (i .n) r h, i .is)) (dec (i .n) (i .region)))
+  | no n ↦ no (λ h. n (record { n = h .0; region = h .1 .0; is = is (h .0) (h .1 .0) (h .1 .1) }))
+]
+
 unfoldable pub anInt : (f : Function) (a : ℕ) → Dec ((w : ℕ) × (f ⊢ a ∶ int w))
 anInt f a = withInt f a (λ w. f ⊢ a ∶ int w) (λ w h. h .1) (λ w. decReg f a (int w))
 
 unfoldable pub aPtr : (f : Function) (a : ℕ) → Dec ((T : Tree variable) × ((r : Variable) × (f ⊢ a ∶ ptr T r)))
 aPtr f a = withPtr f a (λ T r. f ⊢ a ∶ ptr T r) (λ T r h. h .1) (λ T r. decReg f a (ptr T r))
+
+unfoldable pub aRaw : (f : Function) (b : ℕ) → Dec ((n : ℕ) × ((r : Variable) × (f ⊢ b ∶ rawPtr n r)))
+aRaw f b = withRaw f b (λ n r. f ⊢ b ∶ rawPtr n r) (λ n r h. h .1) (λ n r. decReg f b (rawPtr n r))
+
+-- register b is an untyped pointer into an untyped region
+unfoldable pub decUntyped : (f : Function) (b : ℕ) → Dec ((n : ℕ) × ((r : Variable) × ((f ⊢ b ∶ rawPtr n r) × Untyped f r)))
+decUntyped f b = withRaw f b (λ n r. (f ⊢ b ∶ rawPtr n r) × Untyped f r) (λ n r h. h .0 .1)
+    (λ n r. decBoth (decReg f b (rawPtr n r)) (decBoth (decLt (r .number) (regions f)) (decTree (f .regionType (r .number)) bytes)))
 
 -- ---- the rules
 
@@ -112,7 +155,10 @@ module _ (m : Module) (f : Function) where
   decSigned a b = mapDec (λ h. t-signExtend (h .1 .1) (h .0 .1)) (λ t. elim t [ t-signExtend {v = v} {w = w} p q ↦ ((w, q), (v, p)) ]) (decBoth (anInt f a) (anInt f b))
 
   unfoldable pub decAddress : (a b : ℕ) → Dec (Typed m f (address a b))
-  decAddress a b = mapDec (λ h. t-address (h .1 .1 .1) (h .0)) (λ t. elim t [ t-address {r = r} {T = T} p q ↦ (q, (T, (r, p))) ]) (decBoth (decReg f a (int 4)) (aPtr f b))
+  decAddress a b = mapDec
+      (λ h. elim (h .1) [ inl p ↦ t-address (p .1 .1) (h .0) | inr p ↦ t-addressBytes (p .1 .1) (h .0) ])
+      (λ t. elim t [ t-address {r = r} {T = T} p q ↦ (q, inl (T, (r, p))) | t-addressBytes {n = n} {r = r} p q ↦ (q, inr (n, (r, p))) ])
+      (decBoth (decReg f a (int 4)) (decEither (aPtr f b) (aRaw f b)))
 
   unfoldable pub decCheck : (a b : ℕ) → Dec (Typed m f (check a b))
   decCheck a b = mapDec
@@ -198,6 +244,22 @@ module _ (m : Module) (f : Function) where
   unfoldable pub decReturn : (a : ℕ) → Dec (Typed m f (return a))
   decReturn a = mapDec t-return (λ t. elim t [ t-return p ↦ p ]) (decReg f a (f .result))
 
+  unfoldable pub decNewBytes : (a : ℕ) → Dec (Typed m f (newBytes a))
+  decNewBytes a = mapDec (λ h. t-newBytes (h .1 .1 .0) (h .1 .1 .1)) (λ t. elim t [ t-newBytes {n = n} {r = r} p u ↦ (n, (r, (p, u))) ]) (decUntyped f a)
+
+  unfoldable pub decLoadByte : (a b c : ℕ) → Dec (Typed m f (loadByte a b c))
+  decLoadByte a b c = mapDec (λ h. t-loadByte (h .0 .1 .1 .0) (h .0 .1 .1 .1) (h .1 .0) (h .1 .1)) (λ t. elim t [ t-loadByte {n = n} {r = r} p u q s ↦ ((n, (r, (p, u))), (q, s)) ])
+      (decBoth (decUntyped f b) (decBoth (decReg f c (int 4)) (decReg f a (int 1))))
+
+  unfoldable pub decStoreByte : (a b c : ℕ) → Dec (Typed m f (storeByte a b c))
+  decStoreByte a b c = mapDec (λ h. t-storeByte (h .0 .1 .1 .0) (h .0 .1 .1 .1) (h .1 .0) (h .1 .1)) (λ t. elim t [ t-storeByte {n = n} {r = r} p u q s ↦ ((n, (r, (p, u))), (q, s)) ])
+      (decBoth (decUntyped f a) (decBoth (decReg f c (int 4)) (decReg f b (int 1))))
+
+  unfoldable pub decCheckBytes : (a b : ℕ) → Dec (Typed m f (checkBytes a b))
+  decCheckBytes a b = mapDec (λ h. t-checkBytes (h .0 .0, refl) (h .0 .1) (h .1 .1 .1 .0) (h .1 .1 .1 .1))
+      (λ t. elim t [ t-checkBytes {n = n} {r = r} p s q u ↦ ((p .0, subst AnAddress (sym (p .1)) s), (n, (r, (q, u)))) ])
+      (decBoth (decBoth (decLt b (f .registers)) (decAnAddress (f .registerType b))) (decUntyped f a))
+
   unfoldable pub decTyped : (i : Instruction) → Dec (Typed m f i)
   decTyped (constant a d) = decConstant a d
   decTyped (copy a b) = decCopy a b
@@ -218,3 +280,7 @@ module _ (m : Module) (f : Function) where
   decTyped (branch a d) = decBranch a d
   decTyped (call a g rs xs) = decCall a g rs xs
   decTyped (return a) = decReturn a
+  decTyped (newBytes a) = decNewBytes a
+  decTyped (loadByte a b c) = decLoadByte a b c
+  decTyped (storeByte a b c) = decStoreByte a b c
+  decTyped (checkBytes a b) = decCheckBytes a b

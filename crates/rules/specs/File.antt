@@ -1,6 +1,6 @@
 -- Document 01, "The module file", first paragraph: blocks, records and kinds; and refusals 1, 2 and 3. Every read is total:
 -- past the end of the file there are zeros. Assumes nothing.
-use mathlib.Core.Bool.{Bool, cond, _&&_}
+use mathlib.Core.Bool.{Bool, cond, _&&_, _||_}
 use Prim.Native.Nat.{ℕ, zero, suc, _+_, _*_, _/_, _%_}
 use lib.Dec.{leb, eqb}
 use lib.ListN.{length}
@@ -117,6 +117,13 @@ kindArray = 3
 abbrev pub kindStruct : ℕ
 kindStruct = 4
 
+-- document 02, P3: "the untyped pointer .. as term kind 11"; "Byte 255 in record 8 marks a region untyped"
+abbrev pub kindUntyped : ℕ
+kindUntyped = 11
+
+abbrev pub untypedMark : ℕ
+untypedMark = 255
+
 -- "5 name with a regions and b fields, then 6: field terms". (Records and walk keep the file's word, name, for what a module
 -- calls a struct.)
 abbrev pub kindName : ℕ
@@ -159,13 +166,20 @@ firstControl = 29
 abbrev pub lastControl : ℕ
 lastControl = 34
 
+-- document 02, P3: kinds 36 to 39 are memory too; 35 between is no instruction
+abbrev pub firstUntyped : ℕ
+firstUntyped = 36
+
+abbrev pub lastUntyped : ℕ
+lastUntyped = 39
+
 abbrev pub within : ℕ → ℕ → ℕ → Bool
 within k lo hi = leb lo k && leb k hi
 
 -- the group of an instruction's kind. (What is no instruction is refused with 4 before its group is asked; here it counts as
 -- arithmetic.)
 unfoldable pub groupOf : ℕ → Group
-groupOf k = cond (within k firstMemory lastMemory) Memory (cond (within k firstControl lastControl) Control Arithmetic)
+groupOf k = cond (within k firstMemory lastMemory || within k firstUntyped lastUntyped) Memory (cond (within k firstControl lastControl) Control Arithmetic)
 
 abbrev pub isTerm : ℕ → Bool
 isTerm k = within k kindInteger kindStruct

@@ -10,7 +10,7 @@ use lib.ListN.{length, getD, take, drop}
 use Rattle.words.specs.First.{first}
 use Rattle.rules.specs.Limits.{sizeLimit}
 use Rattle.words.specs.Decide.{decBoth, mapDec, decList}
-use Rattle.rules.specs.Types.{RegionKind, variable, Region, Tree, int, ptr, arr, struct, sub, arg, decTree}
+use Rattle.rules.specs.Types.{RegionKind, variable, Region, Tree, int, ptr, arr, struct, rawPtr, bytes, sub, arg, decTree}
 use Rattle.rules.specs.Module.{Module}
 
 -- a primitive and its distance in bytes from the start
@@ -39,7 +39,7 @@ pub record Layout (k : RegionKind) : Type 0 where
   pub size : ℕ
   pub prims : List (Placed k)
 
--- ---- the three operations that make a layout
+-- ---- what a layout is made of
 
 -- one primitive of w bytes
 abbrev pub single : {k : RegionKind} → ℕ → Tree k → Layout k
@@ -51,6 +51,11 @@ none = record { size = suc sizeLimit; prims = [] }
 
 abbrev pub empty : {k : RegionKind} → Layout k
 empty = record { size = 0; prims = [] }
+
+-- document 02, P3: an untyped region has places of one byte, without primitives. So no run stands there, no pointer's target has the same
+-- primitives, and the state test asks nothing of its bytes
+abbrev pub oneByte : {k : RegionKind} → Layout k
+oneByte = record { size = 1; prims = [] }
 
 abbrev pub moved : {k : RegionKind} → ℕ → Placed k → Placed k
 moved n (at d T) = at (n + d) T
@@ -86,6 +91,8 @@ flatWith ls (int w) = single w (int w)
 flatWith ls (ptr T r) = single 4 (ptr T r)
 flatWith ls (arr n T) = copies n (flatWith ls T)
 flatWith ls (struct N rs) = subLayout (arg rs) (getD ls N none)
+flatWith ls (rawPtr n r) = single 4 (rawPtr n r)
+flatWith ls bytes = oneByte
 
 -- the fields one after the other, behind what L has already
 unfoldable pub fieldsFrom : List (Layout variable) → Layout variable → List (Tree variable) → Layout variable

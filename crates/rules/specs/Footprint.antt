@@ -2,7 +2,7 @@
 -- is counted and claimed of page bytes and granted pages (SafeStep, Calls) follows from this table. Assumes nothing.
 use Prim.Native.Nat.{ℕ, _+_, _*_, _<_, _≤_}
 use Rattle.rules.specs.Limits.{pageBytes}
-use Rattle.rules.specs.Step.{Effect, assign, fetch, save, takePlace, grantPage, freePlace, goTo, emit, push, pop, finish, stop, stuck}
+use Rattle.rules.specs.Step.{Effect, assign, fetch, save, takePlaces, grantPage, freePlace, goTo, emit, push, pop, finish, stop, stuck}
 
 -- So many bytes of the pages from an address on.
 pub record Span : Type 0 where
@@ -46,8 +46,8 @@ abbrev pub footprint : Effect → Footprint
 footprint (assign a x) = untouched
 footprint (fetch b a x w) = loading b x w
 footprint (save b x w y) = storing b x w
-footprint (takePlace p j n a) = clearing (pageBytes * p + n * j) n 0
-footprint (grantPage p r a) = clearing (pageBytes * p) pageBytes 1
+footprint (takePlaces p j c n a) = clearing (pageBytes * p + n * j) (n * c) 0
+footprint (grantPage p r c a) = clearing (pageBytes * p) pageBytes 1
 footprint (freePlace p j) = untouched
 footprint (goTo d) = untouched
 footprint (emit x) = untouched

@@ -9,7 +9,7 @@ use native.Mathlib.Decide.{ℕ-discrete, decLt, decLe}
 use lib.Dec.{eqb}
 use Rattle.rules.specs.Limits.{pages, pageBytes}
 use Rattle.words.specs.Decide.{mapDec, decBoth, decEither, decAny}
-use Rattle.rules.specs.Types.{variable, live, region, Tree, int, ptr, arr, struct, sub}
+use Rattle.rules.specs.Types.{variable, live, region, Tree, int, ptr, arr, struct, rawPtr, bytes, decTree, sub}
 use Rattle.rules.specs.Module.{Module, Function}
 use Rattle.rules.specs.Flat.{flat, size, RunAt, decRun, positionAt}
 use Rattle.rules.specs.State.{View}
@@ -54,8 +54,8 @@ unfoldable pub look : (μ : ℕ → ℕ) (t : ℕ → Tree live) (lo : ℕ) (old
 look μ t lo old zero r = old r
 look μ t lo old (suc c) r = cond (eqb (μ (lo + c)) r) (t (lo + c)) (look μ t lo old c r)
 
--- the type of live region r: that of the frame it is local to, closed by that frame's map. (A region that is not live has a
--- type without bytes, at which no run stands.)
+-- the type of live region r: that of the frame it is local to, closed by that frame's map. (A region that is not live has the
+-- type int 0, of size 0 and not untyped: there no pointer has a value but zero.)
 unfoldable pub typeOf : Module → (ℕ → ℕ) → (ℕ → ℕ → ℕ) → ℕ → ℕ → Tree live
 typeOf m fn map zero r = int 0
 typeOf m fn map (suc k) r =
@@ -94,6 +94,21 @@ decStands m W T r a = mapDec
     (decBoth (decLe (size m (W .type r) * suc (a % pageBytes / size m (W .type r))) pageBytes)
     (decRun (flat m (W .type r)) (positionAt (flat m (W .type r)) (a % pageBytes % size m (W .type r))) (flat m T)))))
 
+-- document 02, P3: "the address must have its bytes inside one page of that region, used or not (these and zero are its values)": the n
+-- bytes from address a on lie in one page of live region r, which is untyped
+pub record InUntyped (W : HeapTyping) (n r a : ℕ) : Type 0 where
+  pub inside : a / pageBytes < pages
+  pub own : W .owner (a / pageBytes) ≡ suc r
+  pub untyped : W .type r ≡ bytes
+  pub fits : a % pageBytes + n ≤ pageBytes
+
+unfoldable pub decInUntyped : (W : HeapTyping) (n r a : ℕ) → Dec (InUntyped W n r a)
+decInUntyped W n r a = mapDec
+    (λ h. record { inside = h .0 .0; own = h .0 .1; untyped = h .1 .0; fits = h .1 .1 })
+    (λ h. ((h .inside, h .own), (h .untyped, h .fits)))
+    (decBoth (decBoth (decLt (a / pageBytes) pages) (ℕ-discrete (W .owner (a / pageBytes)) (suc r)))
+    (decBoth (decTree (W .type r) bytes) (decLe (a % pageBytes + n) pageBytes)))
+
 -- "An address is a value of a pointer type if it is zero, or lies .."; an integer is below 256 to its width; only primitives
 -- have values
 abbrev pub Value : Module → HeapTyping → Tree live → ℕ → Type 0
@@ -101,9 +116,13 @@ Value m W (int w) v = v < 256 ^ w
 Value m W (ptr T r) v = (v ≡ 0) ⊎ Stands m W T (r .number) v
 Value m W (arr n T) v = ⊥
 Value m W (struct N rs) v = ⊥
+Value m W (rawPtr n r) v = (v ≡ 0) ⊎ InUntyped W n (r .number) v
+Value m W bytes v = ⊥
 
 unfoldable pub decValue : (m : Module) (W : HeapTyping) (T : Tree live) (v : ℕ) → Dec (Value m W T v)
 decValue m W (int w) v = decLt v (256 ^ w)
 decValue m W (ptr T r) v = decEither (ℕ-discrete v 0) (decStands m W T (r .number) v)
 decValue m W (arr n T) v = no (λ h. h)
 decValue m W (struct N rs) v = no (λ h. h)
+decValue m W (rawPtr n r) v = decEither (ℕ-discrete v 0) (decInUntyped W n (r .number) v)
+decValue m W bytes v = no (λ h. h)

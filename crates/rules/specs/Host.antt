@@ -10,7 +10,7 @@ use Rattle.words.specs.Bytes.{Bytes, number}
 use Rattle.rules.specs.Limits.{pageBytes, mostForm, outputBytes, stateBytes, badInput, badLength, badState, notRunning}
 use Rattle.words.specs.Decide.{does}
 use Rattle.rules.specs.Module.{Module}
-use Rattle.rules.specs.Flat.{size}
+use Rattle.rules.specs.Flat.{flat, count}
 use Rattle.rules.specs.Decode.{moduleOf}
 use Rattle.rules.specs.Verdict.{verdictOf}
 use Rattle.rules.specs.State.{allPages, View, view, written, putRange, putFrames, putFrame, pagePlace}
@@ -120,13 +120,14 @@ testAt R f s =
 -- ---- the reader of states
 
 -- "for an address, also one inside an object, the part of the lent memory that is the whole object there, used or free, or an
--- empty part": address a, whose page has this owner
+-- empty part": address a, whose page has this owner. Document 02, P3: "in untyped pages .. the reader's part is empty": no primitives
 unfoldable pub objectIn : Module → View → (address owner : ℕ) → Part
 objectIn m v a zero = emptyPart
 objectIn m v a (suc r) =
-    let s = size m (typeOf m (v .fn) (v .map) (v .frames) r) in
+    let L = flat m (typeOf m (v .fn) (v .map) (v .frames) r) in
+    let s = L .size in
     let j = a % pageBytes / s in
-    cond (ltb 0 s && leb (s * suc j) pageBytes) (record { offset = pagePlace (a / pageBytes) + s * j; size = s }) emptyPart
+    cond ((ltb 0 s && ltb 0 (count L)) && leb (s * suc j) pageBytes) (record { offset = pagePlace (a / pageBytes) + s * j; size = s }) emptyPart
 
 -- "also when module or state is refused"
 unfoldable pub objectAt : PageRange → (file state : Bytes) (address : ℕ) → Part

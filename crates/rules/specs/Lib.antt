@@ -1,4 +1,4 @@
--- Document 01's base with P1 of document 02, in its order: what must be believed.
+-- Document 01's base with P1 and P2 of document 02, and what is prepared for P3 and P14, in its order: what must be believed.
 pub mod Limits
 -- the module file and its rules
 pub mod Stages
@@ -35,6 +35,7 @@ pub mod CaseStates
 pub mod CasesFile
 pub mod CasesStep
 pub mod CasesTest
+pub mod CasesUntyped
 pub mod Cases
 pub mod CasesMachine
 pub mod CasesObjects

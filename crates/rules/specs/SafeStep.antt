@@ -11,14 +11,14 @@ use lib.ListN.{length}
 use Rattle.words.specs.Bytes.{Bytes, byteAt}
 use Rattle.words.specs.Decide.{does, mapDec, decBoth, decEither}
 use Rattle.rules.specs.Limits.{pages, pageBytes, memoryAt, memoryBytes}
-use Rattle.rules.specs.Types.{variable, live, Variable, Tree, ptr, width}
+use Rattle.rules.specs.Types.{variable, live, Variable, Tree, int, ptr, arr, struct, rawPtr, bytes, width}
 use Rattle.rules.specs.Module.{Module, regions}
 use Rattle.rules.specs.Flat.{Placed, at, Has, here, there, flat, size}
 use Rattle.rules.specs.Typing.{_⊢_∶_}
-use Rattle.rules.specs.Decision.{decReg, withPtr}
+use Rattle.rules.specs.Decision.{decReg, withPtr, withRaw}
 use Rattle.rules.specs.State.{InRange, View, view, memoryPlace, memoryNumber}
-use Rattle.rules.specs.Heap.{close, Live, decLive, typeOf, heapTyping, Stands, decStands, Value}
-use Rattle.rules.specs.Step.{Effect, fetch, save, takePlace, grantPage, freePlace, stop, stuck, effectOf}
+use Rattle.rules.specs.Heap.{close, Live, decLive, typeOf, heapTyping, Stands, decStands, InUntyped, decInUntyped, Value}
+use Rattle.rules.specs.Step.{Effect, fetch, save, takePlaces, grantPage, freePlace, stop, stuck, effectOf}
 use Rattle.rules.specs.Footprint.{footprint, Within}
 use Rattle.rules.specs.Writes.{applyState}
 use Rattle.rules.specs.Run.{Step, stateAfter}
@@ -63,14 +63,39 @@ pub record Touches (m : Module) (v : View) (k b x w : ℕ) : Type 0 where
       → InObject i (x / pageBytes) (x % pageBytes / size m (typeOf m (v .fn) (v .map) (suc k) (v .map k (within .number)))) (size m (typeOf m (v .fn) (v .map) (suc k) (v .map k (within .number))))
   pub bytes : (i : ℕ) → x ≤ i → i < x + w → InRun m (close (v .map k) target) x i
 
+-- Document 02, P3: "for kinds 37 and 38 the value of demand 3 is those d bytes, inside one page of a live untyped region in scope, whichever
+-- objects lie there". Register b of the top frame k is an untyped pointer to `count` bytes in region variable `within`, which is in scope and
+-- leads to a live region; that is untyped and has the bytes from the register's address on in one page.
+pub record NamesBytes (m : Module) (v : View) (k b count : ℕ) (within : Variable) : Type 0 where
+  pub register : m .function (v .fn k) ⊢ b ∶ rawPtr count within
+  pub scope : within .number < regions (m .function (v .fn k))
+  pub alive : Live m (v .fn) (v .map) (suc k) (suc (v .map k (within .number)))
+  pub bytes : InUntyped (heapTyping m v (suc k)) count (v .map k (within .number)) (v .reg k b)
+
+-- the w bytes touched from x on lie in those that register b names
+pub record TouchesBytes (m : Module) (v : View) (k b x w : ℕ) : Type 0 where
+  pub count : ℕ
+  pub within : Variable
+  pub names : NamesBytes m v k b count within
+  pub bytes : (i : ℕ) → x ≤ i → i < x + w → (v .reg k b ≤ i) × (i < v .reg k b + count)
+
 -- ---- how many bytes stray
 
--- address i lies in the value that register b names
-pub record InValue (m : Module) (v : View) (k b i : ℕ) : Type 0 where
+-- address i lies in the value that register b names: a typed pointer's, an untyped pointer's
+pub record InTyped (m : Module) (v : View) (k b i : ℕ) : Type 0 where
   pub target : Tree variable
   pub within : Variable
   pub names : Names m v k b target within
   pub byte : InRun m (close (v .map k) target) (v .reg k b) i
+
+pub record InRaw (m : Module) (v : View) (k b i : ℕ) : Type 0 where
+  pub count : ℕ
+  pub within : Variable
+  pub names : NamesBytes m v k b count within
+  pub byte : (v .reg k b ≤ i) × (i < v .reg k b + count)
+
+abbrev pub InValue : Module → View → (k b i : ℕ) → Type 0
+InValue m v k b i = InTyped m v k b i ⊎ InRaw m v k b i
 
 -- that is decided: for a list of primitives, for a register's type, and whole
 unfoldable pub decInPrimitives : (l : List (Placed live)) (x i : ℕ) → Dec (InPrimitives l x i)
@@ -92,9 +117,21 @@ decNames m v k b T r = mapDec (λ h. record { register = h .0; scope = h .1 .0; 
     (decBoth (decReg (m .function (v .fn k)) b (ptr T r)) (decBoth (decLt (r .number) (regions (m .function (v .fn k))))
     (decBoth (decLive m (v .fn) (v .map) (suc k) (suc (v .map k (r .number)))) (decStands m (heapTyping m v (suc k)) (close (v .map k) T) (v .map k (r .number)) (v .reg k b)))))
 
-unfoldable pub decInValue : (m : Module) (v : View) (k b i : ℕ) → Dec (InValue m v k b i)
-decInValue m v k b i = mapDec (λ h. record { target = h .0; within = h .1 .0; names = h .1 .1 .0; byte = h .1 .1 .1 }) (λ h. (h .target, (h .within, (h .names, h .byte))))
+unfoldable pub decInTyped : (m : Module) (v : View) (k b i : ℕ) → Dec (InTyped m v k b i)
+decInTyped m v k b i = mapDec (λ h. record { target = h .0; within = h .1 .0; names = h .1 .1 .0; byte = h .1 .1 .1 }) (λ h. (h .target, (h .within, (h .names, h .byte))))
     (withPtr (m .function (v .fn k)) b _ (λ T r h. h .0 .register .1) (λ T r. decBoth (decNames m v k b T r) (decInPrimitives (flat m (close (v .map k) T) .prims) (v .reg k b) i)))
+
+unfoldable pub decNamesBytes : (m : Module) (v : View) (k b n : ℕ) (r : Variable) → Dec (NamesBytes m v k b n r)
+decNamesBytes m v k b n r = mapDec (λ h. record { register = h .0; scope = h .1 .0; alive = h .1 .1 .0; bytes = h .1 .1 .1 }) (λ h. (h .register, (h .scope, (h .alive, h .bytes))))
+    (decBoth (decReg (m .function (v .fn k)) b (rawPtr n r)) (decBoth (decLt (r .number) (regions (m .function (v .fn k))))
+    (decBoth (decLive m (v .fn) (v .map) (suc k) (suc (v .map k (r .number)))) (decInUntyped (heapTyping m v (suc k)) n (v .map k (r .number)) (v .reg k b)))))
+
+unfoldable pub decInRaw : (m : Module) (v : View) (k b i : ℕ) → Dec (InRaw m v k b i)
+decInRaw m v k b i = mapDec (λ h. record { count = h .0; within = h .1 .0; names = h .1 .1 .0; byte = h .1 .1 .1 }) (λ h. (h .count, (h .within, (h .names, h .byte))))
+    (withRaw (m .function (v .fn k)) b _ (λ n r h. h .0 .register .1) (λ n r. decBoth (decNamesBytes m v k b n r) (decBoth (decLe (v .reg k b) i) (decLt i (v .reg k b + n)))))
+
+unfoldable pub decInValue : (m : Module) (v : View) (k b i : ℕ) → Dec (InValue m v k b i)
+decInValue m v k b i = decEither (decInTyped m v k b i) (decInRaw m v k b i)
 
 -- how many of the w addresses from x on do not lie in that value
 unfoldable pub strayFrom : Module → View → (k b x w : ℕ) → ℕ
@@ -141,8 +178,8 @@ InOwnPages t = (i : ℕ) → i < memoryBytes → Reads (t .effect) i ⊎ Changes
 
 -- ---- document 02, P1: free and used objects
 
--- how many bytes a place of a page has, by the page's owner: those of its region's objects; a page without owner is one place, free as
--- a whole
+-- how many bytes a place of a page has, by the page's owner: those of its region's objects, one in an untyped region; a page without owner
+-- is one place, free as a whole
 abbrev pub placeBytes : Module → View → (owner : ℕ) → ℕ
 placeBytes m v zero = pageBytes
 placeBytes m v (suc r) = size m (typeOf m (v .fn) (v .map) (v .frames) r)
@@ -152,21 +189,32 @@ pub record InPlace (m : Module) (v : View) (p j i : ℕ) : Type 0 where
   pub page : p < pages
   pub inside : InObject i p j (placeBytes m v (v .owner p))
 
--- An effect hands out that very place, or grants its page.
+-- An effect hands out that very place, one of the c from place q on, or grants its page.
 pub data HandsOut (e : Effect) (p j : ℕ) : Type 0 where
-  place : (n a : ℕ) → e ≡ takePlace p j n a → HandsOut e p j
-  page : (r a : ℕ) → e ≡ grantPage p r a → HandsOut e p j
+  place : (q c n a : ℕ) → e ≡ takePlaces p q c n a → q ≤ j → j < q + c → HandsOut e p j
+  page : (r c a : ℕ) → e ≡ grantPage p r c a → HandsOut e p j
 
--- Register a has the address of place j of page p after a step; the place was free and is used from then on.
-pub record Taken (m : Module) (t : Step) (p j a : ℕ) : Type 0 where
-  pub free : view (t .state) .mark p j ≡ 0
-  pub used : view (stateAfter m t) .mark p j ≢ 0
+-- how many places a new object takes, by its pointer's type: one; of an untyped pointer one for each of its bytes
+abbrev pub placesOf : Tree variable → ℕ
+placesOf (int w) = 0
+placesOf (ptr T r) = 1
+placesOf (arr n T) = 0
+placesOf (struct N rs) = 0
+placesOf (rawPtr n r) = n
+placesOf bytes = 0
+
+-- Register a has the address of place j of page p after a step; the c places from there on, as many as its type asks for, were free and
+-- are used from then on.
+pub record Taken (m : Module) (t : Step) (p j c a : ℕ) : Type 0 where
+  pub count : c ≡ placesOf (m .function (view (t .state) .fn (t .top)) .registerType a)
+  pub free : (i : ℕ) → i < c → view (t .state) .mark p (j + i) ≡ 0
+  pub used : (i : ℕ) → i < c → view (stateAfter m t) .mark p (j + i) ≢ 0
   pub address : view (stateAfter m t) .reg (t .top) a ≡ pageBytes * p + placeBytes m (view (t .state)) (view (t .state) .owner p) * j
 
--- what kind 27 hands out: a place of a page that its region has, or the first of a page that it is granted
+-- what is handed out: places of a page that the region has, or the first ones of a page that it is granted
 pub record NewTaken (m : Module) (t : Step) : Type 0 where
-  pub place : (p j n a : ℕ) → t .effect ≡ takePlace p j n a → Taken m t p j a
-  pub page : (p r a : ℕ) → t .effect ≡ grantPage p r a → Taken m t p 0 a
+  pub place : (p j c n a : ℕ) → t .effect ≡ takePlaces p j c n a → Taken m t p j c a
+  pub page : (p r c a : ℕ) → t .effect ≡ grantPage p r c a → Taken m t p 0 c a
 
 -- the page byte at address i is another after a step
 abbrev pub Differs : Module → Step → ℕ → Type 0
@@ -199,8 +247,8 @@ pub record SafeStep (m : Module) (t : Step) : Type 0 where
   pub moves : t .effect ≢ stuck
   pub stops : (n : ℕ) → t .effect ≡ stop n → Listed n
   -- loads and stores touch the value that their pointer's type names
-  pub loads : (b a x w : ℕ) → t .effect ≡ fetch b a x w → Touches m (view (t .state)) (t .top) b x w
-  pub stores : (b x w y : ℕ) → t .effect ≡ save b x w y → Touches m (view (t .state)) (t .top) b x w
+  pub loads : (b a x w : ℕ) → t .effect ≡ fetch b a x w → Touches m (view (t .state)) (t .top) b x w ⊎ TouchesBytes m (view (t .state)) (t .top) b x w
+  pub stores : (b x w y : ℕ) → t .effect ≡ save b x w y → Touches m (view (t .state)) (t .top) b x w ⊎ TouchesBytes m (view (t .state)) (t .top) b x w
   -- what a load fetches is a value of its register's type
   pub fetches : (b a x w : ℕ) → t .effect ≡ fetch b a x w → Fetches m (view (t .state)) (t .top) a x w
   -- no other page byte bears on what it does or leaves, and none other is changed
@@ -209,7 +257,7 @@ pub record SafeStep (m : Module) (t : Step) : Type 0 where
       → ((i : ℕ) → i < memoryBytes → Reads (t .effect) i → byteAt s (memoryPlace i) ≡ byteAt (t .state) (memoryPlace i))
       → SameButPages (applyState m (t .top) (t .effect) s) (stateAfter m t)
   pub keeps : (i : ℕ) → i < memoryBytes → ¬ Changes (t .effect) i → byteAt (stateAfter m t) (memoryPlace i) ≡ byteAt (t .state) (memoryPlace i)
-  -- what kind 27 hands out was free, is used from then on and all zeros; else a store alone changes an object's bytes, free or used
+  -- what kinds 27 and 36 hand out was free, is used from then on and all zeros; else a store alone changes an object's bytes, free or used
   pub taken : NewTaken m t
   pub zeros : NewZero m t
   pub free : FreeKept m t

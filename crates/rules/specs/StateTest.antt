@@ -58,7 +58,8 @@ pub record FramesOk (m : Module) (fn pc : ℕ → ℕ) (map : ℕ → ℕ → �
 abbrev pub PrimitiveOk : Module → View → (n p : ℕ) (L : Layout live) (j : ℕ) → Placed live → Type 0
 PrimitiveOk m v n p L j q = Value m (heapTyping m v n) (type q) (memoryNumber (v .memory) (pageBytes * p + (L .size * j + off q)) (width (type q)))
 
--- each primitive of each object, used or free, of page p, whose owner is x
+-- each primitive of each object, used or free, of page p, whose owner is x. Document 02, P3: "in untyped pages the state test takes all bytes":
+-- no primitive is there
 abbrev pub PageOk : Module → View → (n p x : ℕ) → Type 0
 PageOk m v n p zero = Unit {0}
 PageOk m v n p (suc r) =

@@ -4,14 +4,26 @@
 use mathlib.Core.Path.{_≡_}
 use mathlib.Core.List.{List}
 use Prim.Native.Nat.{ℕ, _^_, _<_, _≤_}
-use Rattle.rules.specs.Types.{variable, Variable, region, Tree, int, ptr, arr, sub, arg}
-use Rattle.rules.specs.Module.{Module, Function, regions, argument, Instruction, constant, copy, operate, zeroExtend, signExtend, address, check, field, index, load, store, new, free, input, output, jump, branch, call, return}
+use Rattle.rules.specs.Types.{variable, Variable, region, Tree, int, ptr, arr, struct, rawPtr, bytes, sub, arg}
+use Rattle.rules.specs.Module.{Module, Function, regions, argument, Instruction, constant, copy, operate, zeroExtend, signExtend, address, check, field, index, load, store, new, free, input, output, jump, branch, call, return, newBytes, loadByte, storeByte, checkBytes}
 use Rattle.rules.specs.Flat.{Run, Same, flat}
 use Rattle.rules.specs.Operands.{signedQuotient, lastOperation}
 
 infix 15 _⊢_∶_
 abbrev pub _⊢_∶_ : Function → ℕ → Tree variable → Type 0
 f ⊢ a ∶ T = (a < f .registers) × (f .registerType a ≡ T)
+
+-- document 02, P3: region variable r is in scope and untyped; and the types that kind 39 takes, "an i32 or any pointer"
+abbrev pub Untyped : Function → Variable → Type 0
+Untyped f r = (r .number < regions f) × (f .regionType (r .number) ≡ bytes)
+
+abbrev pub AnAddress : Tree variable → Type 0
+AnAddress (int w) = w ≡ 4
+AnAddress (ptr T r) = Unit {0}
+AnAddress (arr n T) = ⊥
+AnAddress (struct N rs) = ⊥
+AnAddress (rawPtr n r) = Unit {0}
+AnAddress bytes = ⊥
 
 pub data Typed (m : Module) (f : Function) : Instruction → Type 0 where
   -- "16 a becomes d, which fits integer a"
@@ -29,6 +41,8 @@ pub data Typed (m : Module) (f : Function) : Instruction → Type 0 where
   t-signExtend : {a b v w : ℕ} → f ⊢ b ∶ int v → f ⊢ a ∶ int w → Typed m f (signExtend a b)
   -- "21 pointer b to i32 a"
   t-address : {a b : ℕ} {r : Variable} {T : Tree variable} → f ⊢ b ∶ ptr T r → f ⊢ a ∶ int 4 → Typed m f (address a b)
+  -- "Kind 21 takes untyped pointers as well" (document 02, P3)
+  t-addressBytes : {a b n : ℕ} {r : Variable} → f ⊢ b ∶ rawPtr n r → f ⊢ a ∶ int 4 → Typed m f (address a b)
   -- "22 check: i32 or pointer b becomes pointer a"
   t-checkInteger : {a b : ℕ} {r : Variable} {T : Tree variable} → f ⊢ b ∶ int 4 → f ⊢ a ∶ ptr T r → Typed m f (check a b)
   t-checkPointer : {a b : ℕ} {q r : Variable} {S T : Tree variable} → f ⊢ b ∶ ptr S q → f ⊢ a ∶ ptr T r → Typed m f (check a b)
@@ -59,3 +73,10 @@ pub data Typed (m : Module) (f : Function) : Instruction → Type 0 where
       → f ⊢ a ∶ sub (arg rs) (m .function g .result) → Typed m f (call a g rs xs)
   -- "34 returns a, of the return term"
   t-return : {a : ℕ} → f ⊢ a ∶ f .result → Typed m f (return a)
+  -- document 02, P3: "Kind 36 makes a new object .. into register a"; "Kind 37 loads i8 a through b at i32 offset c; kind 38 stores i8 b
+  -- through a at offset c"; "Kind 39 turns an i32 or any pointer b into untyped pointer a". "A typed pointer into an untyped region, or the
+  -- reverse ..: kinds 27, 28 and 36 to 39 refuse it under 7 (39 only as a)"
+  t-newBytes : {a n : ℕ} {r : Variable} → f ⊢ a ∶ rawPtr n r → Untyped f r → Typed m f (newBytes a)
+  t-loadByte : {a b c n : ℕ} {r : Variable} → f ⊢ b ∶ rawPtr n r → Untyped f r → f ⊢ c ∶ int 4 → f ⊢ a ∶ int 1 → Typed m f (loadByte a b c)
+  t-storeByte : {a b c n : ℕ} {r : Variable} → f ⊢ a ∶ rawPtr n r → Untyped f r → f ⊢ c ∶ int 4 → f ⊢ b ∶ int 1 → Typed m f (storeByte a b c)
+  t-checkBytes : {a b n : ℕ} {r : Variable} {T : Tree variable} → f ⊢ b ∶ T → AnAddress T → f ⊢ a ∶ rawPtr n r → Untyped f r → Typed m f (checkBytes a b)

@@ -9,7 +9,7 @@ use lib.Dec.{ltb}
 use lib.ListN.{length}
 use Rattle.rules.specs.Limits.{mostTerms, mostStructs, mostFunctions, mostRegions, mostRegionParams, mostEntries, mostRegisters, mostInstructions, sizeLimit}
 use Rattle.words.specs.Decide.{mapDec, decBoth, decEither, decAll, Each, decEach}
-use Rattle.rules.specs.Types.{variable, Tree, int, ptr, arr, struct, decTree, Uses, decUses, Primitive, decPrimitive}
+use Rattle.rules.specs.Types.{variable, Tree, int, ptr, arr, struct, rawPtr, bytes, decTree, Uses, decUses, Primitive, decPrimitive}
 use Rattle.rules.specs.Module.{Module, Function, regions, Instruction, kindOf}
 use Rattle.rules.specs.Flat.{size, structFlat}
 use Rattle.rules.specs.Typing.{Typed}
@@ -22,12 +22,16 @@ Counts m (int w) = Unit {0}
 Counts m (ptr T r) = Unit {0}
 Counts m (arr n T) = Unit {0}
 Counts m (struct N rs) = length rs ≡ m .arity N
+Counts m (rawPtr n r) = Unit {0}
+Counts m bytes = Unit {0}
 
 unfoldable pub decCounts : (m : Module) (T : Tree variable) → Dec (Counts m T)
 decCounts m (int w) = yes tt
 decCounts m (ptr T r) = yes tt
 decCounts m (arr n T) = yes tt
 decCounts m (struct N rs) = ℕ-discrete (length rs) (m .arity N)
+decCounts m (rawPtr n r) = yes tt
+decCounts m bytes = yes tt
 
 pub record TermOk (m : Module) (T : Tree variable) : Type 0 where
   pub sized : size m T ≤ sizeLimit

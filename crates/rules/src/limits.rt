@@ -68,7 +68,7 @@ pub const REGIONS: u8 = 8;
 
 pub const REGISTERS: u8 = 9;
 
-// The ranges of instructions: arithmetic 16 to 22, memory 23 to 28, control 29 to 34.
+// The ranges of instructions: arithmetic 16 to 22, memory 23 to 28, control 29 to 34; of untyped memory 36 to 39.
 pub const FIRST_ARITHMETIC: u8 = 16;
 
 pub const LAST_ARITHMETIC: u8 = 22;
@@ -80,6 +80,10 @@ pub const LAST_MEMORY: u8 = 28;
 pub const FIRST_CONTROL: u8 = 29;
 
 pub const LAST_CONTROL: u8 = 34;
+
+pub const FIRST_UNTYPED: u8 = 36;
+
+pub const LAST_UNTYPED: u8 = 39;
 
 // "31 jump", "33 calls", "34 returns", "record 35 follows"
 pub const JUMP: u8 = 31;
