@@ -12,15 +12,13 @@ use Rattle.rules.specs.Module.{Module}
 use Rattle.rules.specs.Decode.{moduleOf}
 use Rattle.rules.specs.Verdict.{verdictOf, IsAccepted}
 use Rattle.rules.specs.State.{View, view}
-use Rattle.rules.specs.Heap.{heapTyping}
-use Rattle.rules.specs.Step.{Effect, assign, fetch, save, takePlace, grantPage, freePlace, goTo, emit, push, pop, finish, stop, stuck, effectOf}
+use Rattle.rules.specs.Step.{Effect, assign, fetch, save, takePlaces, grantPage, freePlace, goTo, emit, push, pop, finish, stop, stuck, effectOf}
 use Rattle.rules.specs.Run.{Step, stepOf, stateAfter, outputAfter, Trace, noSteps, runOf}
 use Rattle.rules.specs.StateTest.{Passes}
-use Rattle.layout.specs.Heap.{slot-inside}
 use Rattle.soundness.specs.Facts.{ModuleOk, accepted-ok}
 use Rattle.soundness.specs.Good.{Good}
 use Rattle.soundness.specs.Safe.{Safe}
-use Rattle.soundness.specs.Bounds.{live-small}
+use Rattle.soundness.specs.Bounds.{live-small, load-inside}
 use Rattle.soundness.specs.Bridge.{passes-test}
 use Rattle.soundness.specs.Sound.{status-going, ready}
 use Rattle.soundness.specs.ForCode as sound
@@ -30,12 +28,10 @@ use Rattle.turns.specs.Turns.{Started}
 -- a safe effect of a good state settles
 settles : (m : Module) (ok : ModuleOk m) (v : View) (k : ℕ) → Good m v (suc k) → (e : Effect) → Safe m v k e → Settles v k e
 settles m ok v k g (assign a x) f = tt
-settles m ok v k g (fetch b a x w) f =
-    let s = f .slot in
-    omega (arith, f .bytes, slot-inside m (heapTyping m v (suc k)) x _ (f .slot), s .address, s .fits, s .inside)
+settles m ok v k g (fetch b a x w) f = load-inside m ok v k g b a x w f
 settles m ok v k g (save b x w y) f = tt
-settles m ok v k g (takePlace q j n a) f = tt
-settles m ok v k g (grantPage q r a) f = live-small m ok v k g r (f .alive)
+settles m ok v k g (takePlaces q j c n a) f = tt
+settles m ok v k g (grantPage q r c a) f = live-small m ok v k g r (f .alive)
 settles m ok v k g (freePlace q j) f = tt
 settles m ok v k g (goTo d) f = tt
 settles m ok v k g (emit x) f = f .1

@@ -1,14 +1,14 @@
 -- The laws of substitution for a type closed by a region map, as soundness uses them: what a frame's map keeps. Assumes nothing.
 use mathlib.Core.Path.{_≡_, refl, subst}
 use Prim.Native.Nat.{ℕ}
-use Rattle.rules.specs.Types.{variable, live, Variable, LiveRegion, region, Tree, arr, width, sub, Uses, Primitive}
+use Rattle.rules.specs.Types.{variable, live, Variable, LiveRegion, region, Tree, arr, rawPtr, bytes, width, sub, Uses, Primitive}
 use Rattle.rules.specs.Module.{Module}
 use Rattle.rules.specs.Flat.{Has, Layout, subLayout, flat, size, distance, Run, Same}
 use Rattle.rules.specs.Heap.{close}
-use Rattle.layout.specs.TypesOk.{GoodTree, TypesOk}
+use Rattle.layout.specs.TypesOk.{GoodTree, RegionTree, typed, untyped, TypesOk}
 use Rattle.layout.specs.Types.{sub-width, sub-prim}
 use Rattle.layout.specs.Prims.{has-placed-inv}
-use Rattle.layout.specs.Flat.{size-sub, good-sub, flat-sub, has-uses}
+use Rattle.layout.specs.Flat.{flat-bytes, size-sub, good-sub, flat-sub, has-uses}
 use Rattle.layout.specs.Runs.{flat-distance-sub, run-sub, same-sub}
 
 -- a region map as a substitution
@@ -20,6 +20,14 @@ module _ (μ : ℕ → ℕ) where
   pub close-arr : (n : ℕ) (T : Tree variable) → close μ (arr n T) ≡ arr n (close μ T)
   unfolding sub
   close-arr n T = refl
+
+  pub close-raw : (n : ℕ) (r : Variable) → close μ (rawPtr n r) ≡ rawPtr n (mapped μ r)
+  unfolding sub
+  close-raw n r = refl
+
+  pub close-bytes : close μ bytes ≡ bytes
+  unfolding sub
+  close-bytes = refl
 
   pub close-width : (T : Tree variable) → width (close μ T) ≡ width T
   close-width T = sub-width (mapped μ) T
@@ -53,3 +61,10 @@ module _ (μ : ℕ → ℕ) where
 
       pub same-close : Same (flat m T) (flat m U) → Same (flat m (close μ T)) (flat m (close μ U))
       same-close s = same-sub (mapped μ) m ok T U g h s
+
+  -- the same of a region's type: an untyped one has no primitive
+  pub has-close-region : (m : Module) → TypesOk m → (T : Tree variable) → RegionTree m T → (n d : ℕ) (P : Tree live) → Uses n T → Has (flat m (close μ T) .prims) d P
+      → (U : Tree variable) × Uses n U × (P ≡ close μ U)
+  has-close-region m ok T (typed g) n d P u h = has-close m ok T g n d P u h
+  has-close-region m ok T untyped n d P u h =
+      elim (subst (λ (L : Layout live). Has (L .prims) d P) (flat-bytes m) (subst (λ (U : Tree live). Has (flat m U .prims) d P) close-bytes h)) [ ]

@@ -1,5 +1,6 @@
--- Laws of flat types: what `flat` gives for each form; primitives lie in order, apart and inside the size, start at 0 and cover
--- every byte; sizes; flat types under substitution. What a law asks of the module stands in `TypesOk` and `GoodTree`.
+-- Laws of flat types: what `flat` gives for each form; primitives lie in order, apart and inside the size, and where there are no
+-- untyped bytes they start at 0 and cover every byte; sizes; flat types under substitution. What a law asks of the module stands in
+-- `TypesOk` and `GoodTree`.
 use mathlib.Core.Path.{_≡_, refl, sym, ap, _∙_, subst}
 use mathlib.Core.Logic.{_⊎_, inl, inr, ⊎-elim}
 use mathlib.Core.Bool.{cond}
@@ -12,13 +13,13 @@ use lib.ListN.{length, getD, length-map}
 use Rattle.words.specs.Choose.{cond-split, split-le, lt-or-le}
 use Rattle.rules.specs.Limits.{sizeLimit}
 use Rattle.words.specs.Decide.{Each, none, more}
-use Rattle.rules.specs.Types.{RegionKind, variable, Region, Variable, Tree, int, ptr, arr, struct, width, sub, arg, Uses, in-arr, in-struct, Primitive, integer, pointer}
+use Rattle.rules.specs.Types.{RegionKind, variable, Region, Variable, Tree, int, ptr, arr, struct, rawPtr, bytes, width, sub, arg, Uses, in-arr, in-struct, Primitive, integer, pointer, rawPointer}
 use Rattle.rules.specs.Module.{Module}
-use Rattle.rules.specs.Flat.{Placed, at, off, type, Has, here, there, Layout, single, none as noLayout, moved, packed, beside, copiesOf, copies, placedIn, subLayout, flatWith, empty, fieldsFrom, fieldsWith, layouts, flat, size, count, distance}
-use Rattle.layout.specs.TypesOk.{Width, one, two, four, GoodTree, good-int, good-ptr, good-arr, good-struct, TypesOk}
+use Rattle.rules.specs.Flat.{Placed, at, off, type, Has, here, there, Layout, single, none as noLayout, oneByte, moved, packed, beside, copiesOf, copies, placedIn, subLayout, flatWith, empty, fieldsFrom, fieldsWith, layouts, flat, size, count, distance}
+use Rattle.layout.specs.TypesOk.{Width, one, two, four, GoodTree, good-int, good-ptr, good-arr, good-struct, good-raw, TypesOk}
 use Rattle.layout.specs.Lists.{each-append, each-all, each-map, each-weaken, map-map, map-each, snoc-cases}
 use Rattle.layout.specs.Types.{sub-sub, sub-agree, sub-width, sub-prim, arg-map, arg-uses, uses-sub}
-use Rattle.layout.specs.Prims.{has-append-left, has-append-right, has-moved, has-placed, has-some, has-each, size-copiesOf, size-copies, copies-fit, subLayout-copies, count-sub, length-layouts, Ints, ints-all, Made, made-flat}
+use Rattle.layout.specs.Prims.{has-append-left, has-append-right, has-moved, has-placed, has-some, has-each, size-copiesOf, size-copies, copies-fit, subLayout-copies, count-sub, length-layouts, Leaves, any-leaves, Made, made-flat}
 
 -- ---- by form
 
@@ -33,6 +34,13 @@ module _ {k : RegionKind} (m : Module) where
   flat-prim (ptr T r) p = refl
   flat-prim (arr n T) p = elim p [ ]
   flat-prim (struct N rs) p = elim p [ ]
+  flat-prim (rawPtr n r) p = refl
+  flat-prim bytes p = elim p [ ]
+
+  -- the type of an untyped region
+  pub flat-bytes : flat {k = k} m bytes ≡ oneByte
+  unfolding flat flatWith
+  flat-bytes = refl
 
   -- a primitive is its own run
   pub has-whole : (T : Tree k) → Primitive T → Has (flat m T .prims) 0 T
@@ -75,23 +83,20 @@ ordered-placed σ a [] b o = o
 ordered-placed σ a (at d T ∷ l) b o =
     (o .0, sub-prim σ T (o .1), ordered-from (d + width T) (d + width (sub σ T)) (map (placedIn σ) l) b (omega (arith, sub-width σ T)) (ordered-placed σ (d + width T) l b (o .2)))
 
-ordered-made : Made (λ _. Unit {0}) (λ k L. Ordered 0 (L .prims) (L .size))
+ordered-made : Made (λ _. Unit {0}) (Unit {0}) (λ k L. Ordered 0 (L .prims) (L .size))
 unfolding subLayout
 ordered-made = record {
-  onInt = λ k w i. (omega arith, integer, omega arith);
-  onPtr = λ k T r. (omega arith, pointer, omega arith);
+  onPrim = λ k T p i. (omega arith, p, omega arith);
+  onBytes = λ k b. omega arith;
   onNone = λ k. omega arith;
   onEmpty = λ k. omega arith;
   onPacked = λ k L M p q. ordered-append 0 (L .prims) (L .size) (map (moved (L .size)) (M .prims)) (L .size + M .size) p (ordered-from (L .size + 0) (L .size) (map (moved (L .size)) (M .prims)) (L .size + M .size) (omega arith) (ordered-moved (L .size) 0 (M .prims) (M .size) q));
   onSub = λ j k σ L p. ordered-placed σ 0 (L .prims) (L .size) p;
 }
 
--- a fact that asks nothing of integers holds of every flat type
-all-flat : (P : (k : RegionKind) → Layout k → Type 0) → Made (λ _. Unit {0}) P → (m : Module) {k : RegionKind} (T : Tree k) → P k (flat m T)
-all-flat P c m T = made-flat (λ _. Unit {0}) P c m (λ N _. each-all (ints-all (λ _. Unit {0}) (λ _. tt)) (m .fields N)) T (ints-all (λ _. Unit {0}) (λ _. tt) T)
-
 pub ordered-flat : {k : RegionKind} (m : Module) (T : Tree k) → Ordered 0 (flat m T .prims) (size m T)
-ordered-flat m T = all-flat (λ k L. Ordered 0 (L .prims) (L .size)) ordered-made m T
+ordered-flat m T =
+    made-flat (λ _. Unit {0}) (Unit {0}) (λ k L. Ordered 0 (L .prims) (L .size)) ordered-made m (λ N _. each-all any-leaves (m .fields N)) T (any-leaves T)
 
 module _ {k : RegionKind} where
   ordered-le : (a : ℕ) (l : List (Placed k)) (b : ℕ) → Ordered a l b → a ≤ b
@@ -132,7 +137,18 @@ module _ {k : RegionKind} (m : Module) (T : Tree k) where
   pub flat-apart : {d e : ℕ} {P Q : Tree k} → Has (flat m T .prims) d P → Has (flat m T .prims) e Q → SamePlace d P e Q ⊎ Apart d P e Q
   flat-apart h g = has-apart 0 (flat m T .prims) (size m T) (ordered-flat m T) h g
 
--- ---- what has a size starts with its first primitive, and primitives cover it
+-- ---- what has a size starts with its first primitive, and primitives cover it, where there are no untyped bytes
+
+-- no untyped bytes outside pointers: so is every term
+abbrev pub Plain : {k : RegionKind} → Tree k → Type 0
+Plain T = Leaves (λ _. Unit {0}) ⊥ T
+
+abbrev pub PlainFields : Module → Type 0
+PlainFields m = (N : ℕ) → N < m .structs → Each (λ T. Plain T) (m .fields N)
+
+-- a fact that asks only that there are none holds of every such type
+plain-flat : (P : (k : RegionKind) → Layout k → Type 0) → Made (λ _. Unit {0}) ⊥ P → (m : Module) → PlainFields m → {k : RegionKind} (T : Tree k) → Plain T → P k (flat m T)
+plain-flat P c m plain T p = made-flat (λ _. Unit {0}) ⊥ P c m plain T p
 
 abbrev Starts : {k : RegionKind} → List (Placed k) → ℕ → Type 0
 Starts [] s = s ≡ 0
@@ -147,11 +163,11 @@ starts-placed : {j k : RegionKind} (σ : Region j → Region k) (l : List (Place
 starts-placed σ [] s p = p
 starts-placed σ (at d T ∷ l) s p = p
 
-starts-made : Made (λ _. Unit {0}) (λ k L. L .size ≤ sizeLimit → Starts (L .prims) (L .size))
+starts-made : Made (λ _. Unit {0}) ⊥ (λ k L. L .size ≤ sizeLimit → Starts (L .prims) (L .size))
 unfolding subLayout
 starts-made = record {
-  onInt = λ k w i h. refl;
-  onPtr = λ k T r h. refl;
+  onPrim = λ k T p i h. refl;
+  onBytes = λ k b h. absurd b;
   onNone = λ k h. absurd (omega arith);
   onEmpty = λ k h. refl;
   onPacked = λ k L M p q h. starts-packed (L .prims) (M .prims) (L .size) (M .size) (p (omega arith)) (q (omega arith));
@@ -163,9 +179,9 @@ starts-first [] s p = refl
 starts-first (at d T ∷ l) s p = p
 
 -- the first primitive of what has a size is at distance 0
-pub distance-zero : {k : RegionKind} (m : Module) (T : Tree k) → size m T ≤ sizeLimit → distance (flat m T) 0 ≡ 0
-distance-zero m T h =
-    starts-first (flat m T .prims) (size m T) (all-flat (λ k L. L .size ≤ sizeLimit → Starts (L .prims) (L .size)) starts-made m T h)
+pub distance-zero : {k : RegionKind} (m : Module) → PlainFields m → (T : Tree k) → Plain T → size m T ≤ sizeLimit → distance (flat m T) 0 ≡ 0
+distance-zero m plain T p h =
+    starts-first (flat m T .prims) (size m T) (plain-flat (λ k L. L .size ≤ sizeLimit → Starts (L .prims) (L .size)) starts-made m plain T p h)
 
 -- byte i lies in a primitive of the list
 pub record Covered {k : RegionKind} (l : List (Placed k)) (i : ℕ) : Type 0 where
@@ -185,11 +201,11 @@ covered-packed k L M p q i h = go (lt-or-le i (L .size))
         let c = q (i - L .size) (omega arith) in
         record { distance = L .size + c .distance; type = c .type; has = has-append-right (L .prims) (has-moved (L .size) (c .has)); low = omega (arith, c .low); high = omega (arith, c .high) }
 
-filled-made : Made (λ _. Unit {0}) (λ k L. L .size ≤ sizeLimit → (i : ℕ) → i < L .size → Covered (L .prims) i)
+filled-made : Made (λ _. Unit {0}) ⊥ (λ k L. L .size ≤ sizeLimit → (i : ℕ) → i < L .size → Covered (L .prims) i)
 unfolding subLayout
 filled-made = record {
-  onInt = λ k w _ h i l. record { distance = 0; type = int w; has = here; low = omega arith; high = omega arith };
-  onPtr = λ k T r h i l. record { distance = 0; type = ptr T r; has = here; low = omega arith; high = omega arith };
+  onPrim = λ k T p _ h i l. record { distance = 0; type = T; has = here; low = omega arith; high = omega arith };
+  onBytes = λ k b h i l. absurd b;
   onNone = λ k h i l. absurd (omega arith);
   onEmpty = λ k h i l. absurd (omega arith);
   onPacked = λ k L M p q h. covered-packed k L M (p (omega arith)) (q (omega arith));
@@ -197,8 +213,12 @@ filled-made = record {
 }
 
 -- every byte of what has a size lies in one of its primitives
-pub filled : {k : RegionKind} (m : Module) (T : Tree k) → size m T ≤ sizeLimit → (i : ℕ) → i < size m T → Covered (flat m T .prims) i
-filled m T h = all-flat (λ k L. L .size ≤ sizeLimit → (i : ℕ) → i < L .size → Covered (L .prims) i) filled-made m T h
+pub filled : {k : RegionKind} (m : Module) → PlainFields m → (T : Tree k) → Plain T → size m T ≤ sizeLimit → (i : ℕ) → i < size m T → Covered (flat m T .prims) i
+filled m plain T p h = plain-flat (λ k L. L .size ≤ sizeLimit → (i : ℕ) → i < L .size → Covered (L .prims) i) filled-made m plain T p h
+
+-- what has a byte has a primitive
+pub sized-some : {k : RegionKind} (m : Module) → PlainFields m → (T : Tree k) → Plain T → size m T ≤ sizeLimit → 0 < size m T → 0 < count (flat m T)
+sized-some m plain T p h l = has-some (filled m plain T p h 0 l .has)
 
 -- what has a primitive has a size, or is one itself
 Small : {k : RegionKind} → Layout k → Type 0
@@ -235,15 +255,17 @@ pub flat-small : {k : RegionKind} (m : Module) (T : Tree k) → 0 < count (flat 
 unfolding flat flatWith subLayout Small
 flat-small m (int w) h = inr integer
 flat-small m (ptr T r) h = inr pointer
+flat-small m (rawPtr n r) h = inr rawPointer
+flat-small m bytes h = absurd (omega arith)
 flat-small m (arr n T) h =
     ⊎-elim (λ s. inl s) (λ z. absurd (omega arith)) (small-copies n (flatWith (layouts m (m .structs)) T))
 flat-small m (struct N rs) h =
     ⊎-elim (λ s. inl s) (λ z. absurd (omega (arith, count-sub (arg rs) (getD (layouts m (m .structs)) N noLayout)))) (small-layouts m (m .structs) N)
 
-pub filled-some : {k : RegionKind} (m : Module) (T : Tree k) → 0 < count (flat m T) → (i : ℕ) → i < size m T → Covered (flat m T .prims) i
-filled-some m T h i l =
-    ⊎-elim (λ s. filled m T s i l)
-    (λ p. record { distance = 0; type = T; has = has-whole m T p; low = omega arith; high = omega (arith, size-prim m T p) })
+pub filled-some : {k : RegionKind} (m : Module) → PlainFields m → (T : Tree k) → Plain T → 0 < count (flat m T) → (i : ℕ) → i < size m T → Covered (flat m T .prims) i
+filled-some m plain T p h i l =
+    ⊎-elim (λ s. filled m plain T p s i l)
+    (λ q. record { distance = 0; type = T; has = has-whole m T q; low = omega arith; high = omega (arith, size-prim m T q) })
     (flat-small m T h)
 
 -- ---- widths: every primitive of a good type is an integer of 1, 2 or 4 bytes, or a pointer
@@ -251,10 +273,12 @@ filled-some m T h i l =
 pub data Basic {k : RegionKind} : Tree k → Type 0 where
   basic-int : {w : ℕ} → Width w → Basic (int w)
   basic-ptr : {T : Tree k} {r : Region k} → Basic (ptr T r)
+  basic-raw : {n : ℕ} {r : Region k} → Basic (rawPtr n r)
 
 pub basic-width : {k : RegionKind} {T : Tree k} → Basic T → Width (width T)
 basic-width (basic-int w) = w
 basic-width basic-ptr = four
+basic-width basic-raw = four
 
 pub width-pos : (w : ℕ) → Width w → 0 < w
 width-pos w one = omega arith
@@ -273,6 +297,7 @@ pub basic-sub : {j k : RegionKind} (σ : Region j → Region k) {T : Tree j} →
 unfolding sub
 basic-sub σ (basic-int w) = basic-int w
 basic-sub σ basic-ptr = basic-ptr
+basic-sub σ basic-raw = basic-raw
 
 abbrev pub AllBasic : {k : RegionKind} → List (Placed k) → Type 0
 AllBasic l = Each (λ p. Basic (type p)) l
@@ -283,25 +308,46 @@ basic-moved n (at d T) b = b
 basic-placed : {j k : RegionKind} (σ : Region j → Region k) (p : Placed j) → Basic (type p) → Basic (type (placedIn σ p))
 basic-placed σ (at d T) b = basic-sub σ b
 
-basic-made : Made Width (λ k L. AllBasic (L .prims))
+-- a primitive whose integer is right
+basic-prim : {k : RegionKind} (T : Tree k) → Primitive T → Leaves Width ⊥ T → Basic T
+basic-prim (int w) p i = basic-int i
+basic-prim (ptr T r) p i = basic-ptr
+basic-prim (arr n T) p i = elim p [ ]
+basic-prim (struct N rs) p i = elim p [ ]
+basic-prim (rawPtr n r) p i = basic-raw
+basic-prim bytes p i = elim p [ ]
+
+basic-made : Made Width ⊥ (λ k L. AllBasic (L .prims))
 unfolding subLayout
 basic-made = record {
-  onInt = λ k w i. more (basic-int i) none;
-  onPtr = λ k T r. more basic-ptr none;
+  onPrim = λ k T p i. more (basic-prim T p i) none;
+  onBytes = λ k b. none;
   onNone = λ k. none;
   onEmpty = λ k. none;
   onPacked = λ k L M p q. each-append p (each-map (moved (L .size)) (basic-moved (L .size)) q);
   onSub = λ j k σ L p. each-map (placedIn σ) (basic-placed σ) p;
 }
 
-pub good-ints : {k : RegionKind} {m : Module} {T : Tree k} → GoodTree m T → Ints Width T
-good-ints (good-int w) = w
-good-ints (good-ptr g) = tt
-good-ints (good-arr h s g) = good-ints g
-good-ints (good-struct s e) = tt
+good-leaves : {k : RegionKind} {m : Module} {T : Tree k} → GoodTree m T → Leaves Width ⊥ T
+good-leaves (good-int w) = w
+good-leaves (good-ptr g) = tt
+good-leaves (good-arr h s g) = good-leaves g
+good-leaves (good-struct s e) = tt
+good-leaves (good-raw h l) = tt
+
+-- a good type has no untyped bytes
+pub good-plain : {k : RegionKind} {m : Module} {T : Tree k} → GoodTree m T → Plain T
+good-plain (good-int w) = tt
+good-plain (good-ptr g) = tt
+good-plain (good-arr h s g) = good-plain g
+good-plain (good-struct s e) = tt
+good-plain (good-raw h l) = tt
+
+pub fields-plain : (m : Module) → TypesOk m → PlainFields m
+fields-plain m ok N h = each-weaken (λ U u. good-plain u) (ok .fields N h)
 
 pub flat-basic : {k : RegionKind} (m : Module) → TypesOk m → (T : Tree k) → GoodTree m T → AllBasic (flat m T .prims)
-flat-basic m ok T g = made-flat Width (λ k L. AllBasic (L .prims)) basic-made m (λ N h. each-weaken (λ U u. good-ints u) (ok .fields N h)) T (good-ints g)
+flat-basic m ok T g = made-flat Width ⊥ (λ k L. AllBasic (L .prims)) basic-made m (λ N h. each-weaken (λ U u. good-leaves u) (ok .fields N h)) T (good-leaves g)
 
 pub has-basic : {k : RegionKind} (m : Module) → TypesOk m → (T : Tree k) → GoodTree m T → {d : ℕ} {P : Tree k} → Has (flat m T .prims) d P → Basic P
 has-basic m ok T g h = has-each Basic (flat-basic m ok T g) h
@@ -314,6 +360,7 @@ good-sized m (int w) (good-int h) = let l = width-le w h in omega arith
 good-sized m (ptr T r) g = omega arith
 good-sized m (arr n T) (good-arr h s g) = s
 good-sized m (struct N rs) (good-struct s e) = s
+good-sized m (rawPtr n r) g = omega arith
 
 -- an element of what has a size has one
 pub element-sized : {k : RegionKind} (m : Module) (n : ℕ) (T : Tree k) → size m (arr n T) ≤ sizeLimit → n * size m T ≤ sizeLimit
@@ -328,6 +375,8 @@ module _ {j k : RegionKind} (σ : Region j → Region k) where
       size-copies n (flatWith ls (sub σ T)) ∙ ap (λ (x : ℕ). cond (leb (n * x) sizeLimit) (n * x) (suc sizeLimit)) (with-size-sub ls T)
       ∙ sym (size-copies n (flatWith ls T))
   with-size-sub ls (struct N rs) = refl
+  with-size-sub ls (rawPtr n r) = refl
+  with-size-sub ls bytes = refl
 
   -- sizes do not depend on regions
   pub size-sub : (m : Module) (T : Tree j) → size m (sub σ T) ≡ size m T
@@ -341,6 +390,7 @@ module _ {j k : RegionKind} (σ : Region j → Region k) where
   good-sub m (ptr T r) (good-ptr g) = good-ptr (good-sub m T g)
   good-sub m (arr n T) (good-arr h s g) = good-arr h (subst (λ (x : ℕ). x ≤ sizeLimit) (sym (size-sub m (arr n T))) s) (good-sub m T g)
   good-sub m (struct N rs) (good-struct s e) = good-struct (subst (λ (x : ℕ). x ≤ sizeLimit) (sym (size-sub m (struct N rs))) s) (length-map rs σ ∙ e)
+  good-sub m (rawPtr n r) (good-raw h l) = good-raw h l
 
 module _ (m : Module) where
   module _ (ls : List (Layout variable)) (known : (N : ℕ) → 0 < getD ls N noLayout .size) where
@@ -352,6 +402,7 @@ module _ (m : Module) where
         let p = pos-with T g in
         rw (size-copies n (flatWith ls T)) (split-le (λ (x : ℕ). 0 < x) (n * flatWith ls T .size) sizeLimit (n * flatWith ls T .size) (suc sizeLimit) (λ _. mul-pos h p) (λ _. omega arith))
     pos-with (struct N rs) g = known N
+    pos-with (rawPtr n r) g = omega arith
 
     pos-beside : (L M : Layout variable) → 0 < M .size → 0 < beside L M .size
     unfolding beside
@@ -382,7 +433,7 @@ module _ (m : Module) where
 
     -- a good type has a primitive
     pub flat-some : {k : RegionKind} (T : Tree k) → GoodTree m T → 0 < count (flat m T)
-    flat-some T g = has-some (filled m T (good-sized m T g) 0 (size-pos T g) .has)
+    flat-some T g = sized-some m (fields-plain m ok) T (good-plain g) (good-sized m T g) (size-pos T g)
 
 -- ---- regions: the primitives of a tree use the regions of the tree
 
@@ -406,6 +457,7 @@ module _ (m : Module) where
     unfolding flatWith subLayout copies
     uses-with n (int w) g u = more u none
     uses-with n (ptr T r) g u = more u none
+    uses-with n (rawPtr c r) g u = more u none
     uses-with n (arr c T) (good-arr h s g) (in-arr u) =
         let v = uses-with n T g u in
         cond-split (λ (L : Layout variable). PrimsUse n (L .prims)) (leb (c * flatWith ls T .size) sizeLimit) (copiesOf c (flatWith ls T)) noLayout
@@ -435,6 +487,7 @@ module _ (m : Module) where
     unfolding flatWith sub subLayout
     with-sub σ (int w) g = refl
     with-sub σ (ptr T r) g = refl
+    with-sub σ (rawPtr n r) g = refl
     with-sub σ (arr n T) (good-arr h s g) = ap (copies n) (with-sub σ T g) ∙ sym (subLayout-copies σ n (flatWith ls T))
     with-sub {j} {k} σ (struct N rs) (good-struct s e) =
         ap (λ (l : List (Placed k)). record { size = getD ls N noLayout .size; prims = l })

@@ -2,22 +2,22 @@
 -- objects in pages) that are one or lie apart, and the bytes of a run inside one object. About heap typings, not about bytes.
 -- What a law asks of the module stands in `TypesOk` and `GoodTree`.
 use mathlib.Core.Path.{_≡_, refl, sym, ap, ap₂, _∙_, subst}
-use mathlib.Core.Logic.{_⊎_, inl, inr}
+use mathlib.Core.Logic.{_⊎_, inl, inr, _≢_}
 use Prim.Native.Nat.{ℕ, suc, _+_, _-_, _*_, _^_, _/_, _%_, _<_, _≤_}
 use native.Mathlib.Nat.{mod-lt, div-add-mod, mul-le-mul-left, suc-inj}
 use native.Mathlib.Decide.{decLt}
 use native.Mathlib.Omega.{arith}
 use Rattle.words.specs.ByteLaws.{pow-pos}
 use Rattle.rules.specs.Limits.{pages, pageBytes}
-use Rattle.rules.specs.Types.{live, region, Tree, int, ptr, arr, struct, width, sub, Primitive}
+use Rattle.rules.specs.Types.{live, region, Tree, int, ptr, arr, struct, rawPtr, bytes, width, sub, Primitive}
 use Rattle.rules.specs.Module.{Module}
-use Rattle.rules.specs.Flat.{at, Has, flat, size, count, distance, Run, RunAt, Same}
-use Rattle.rules.specs.Heap.{close, HeapTyping, Stands, Value}
+use Rattle.rules.specs.Flat.{at, Has, Layout, flat, size, count, distance, Run, RunAt, Same}
+use Rattle.rules.specs.Heap.{close, HeapTyping, Stands, InUntyped, Value}
 use Rattle.rules.specs.SafeStep.{InObject, InRun}
 use Rattle.layout.specs.TypesOk.{GoodTree, good-element, TypesOk}
 use Rattle.layout.specs.Types.{Outer}
 use Rattle.layout.specs.Prims.{at-has}
-use Rattle.layout.specs.Flat.{flat-inside, flat-apart, Apart, SamePlace, filled-some, distance-zero, has-basic, basic-wide, good-sized, flat-some}
+use Rattle.layout.specs.Flat.{flat-inside, flat-apart, Apart, SamePlace, flat-bytes, PlainFields, Plain, fields-plain, good-plain, filled-some, distance-zero, has-basic, basic-wide, good-sized, flat-some, size-pos}
 use Rattle.layout.specs.Runs.{flat-rising, flat-ascending, run-has, run-has-from, run-run, run-prim, run-size, same-run, same-sym, has-element, distance-element}
 
 -- ---- the place of an address
@@ -84,12 +84,18 @@ stands-keep m W X T r a k h = record {
   run = subst (λ U. RunAt (flat m U) (a % pageBytes % size m U) (flat m T)) (sym (k .type)) (h .run);
 }
 
+pub untyped-keep : (W X : HeapTyping) (n r a : ℕ) → Kept W X r → InUntyped W n r a → InUntyped X n r a
+untyped-keep W X n r a k h = record { inside = h .inside; own = k .pages (a / pageBytes) (h .own); untyped = k .type ∙ h .untyped; fits = h .fits }
+
 pub value-keep : (m : Module) (W X : HeapTyping) (T : Tree live) (v : ℕ) → Outer (Kept W X) T → Value m W T v → Value m X T v
 value-keep m W X (int w) v k h = h
 value-keep m W X (ptr T r) v k (inl z) = inl z
 value-keep m W X (ptr T r) v k (inr h) = inr (stands-keep m W X T (r .number) v k h)
 value-keep m W X (arr n T) v k h = h
 value-keep m W X (struct N rs) v k h = h
+value-keep m W X (rawPtr n r) v k (inl z) = inl z
+value-keep m W X (rawPtr n r) v k (inr h) = inr (untyped-keep W X n (r .number) v k h)
+value-keep m W X bytes v k h = h
 
 -- zero is a value of every type
 pub value-zero : (m : Module) (W : HeapTyping) (T : Tree live) → Primitive T → Value m W T 0
@@ -97,6 +103,8 @@ value-zero m W (int w) p = pow-pos w
 value-zero m W (ptr T r) p = inl refl
 value-zero m W (arr n T) p = elim p [ ]
 value-zero m W (struct N rs) p = elim p [ ]
+value-zero m W (rawPtr n r) p = inl refl
+value-zero m W bytes p = elim p [ ]
 
 -- a value fits its width
 pub value-bound : (m : Module) (W : HeapTyping) (T : Tree live) (v : ℕ) → Value m W T v → v < 256 ^ width T
@@ -105,6 +113,9 @@ value-bound m W (ptr T r) v (inl z) = omega arith
 value-bound m W (ptr T r) v (inr h) = omega (arith, h .inside)
 value-bound m W (arr n T) v h = absurd h
 value-bound m W (struct N rs) v h = absurd h
+value-bound m W (rawPtr n r) v (inl z) = omega arith
+value-bound m W (rawPtr n r) v (inr h) = omega (arith, h .inside)
+value-bound m W bytes v h = absurd h
 
 pub integer-value : (m : Module) (W : HeapTyping) (μ : ℕ → ℕ) (w v : ℕ) → v < 256 ^ w → Value m W (close μ (int w)) v
 unfolding sub
@@ -137,16 +148,18 @@ module _ (m : Module) (ok : TypesOk m) (W : HeapTyping) where
   stands-index T n r a i g l h =
       let sized = good-sized m (arr n T) g in
       let some = flat-some m ok T (good-element g) in
-      subst (λ (x : ℕ). Stands m W T r (a + x)) (distance-element m n T i l sized some)
-      (stands-position (arr n T) T r a (i * count (flat m T)) g (has-element m n T i l sized some) h)
+      let plain = fields-plain m ok in
+      let p = good-plain (good-element g) in
+      subst (λ (x : ℕ). Stands m W T r (a + x)) (distance-element m plain n T p i l sized some)
+      (stands-position (arr n T) T r a (i * count (flat m T)) g (has-element m plain n T p i l sized some) h)
 
 -- what has the region's primitives stands at every place of the region's pages
-pub stands-new : (m : Module) (W : HeapTyping) (T : Tree live) (r p j : ℕ) → p < pages → W .owner p ≡ suc r → 0 < size m (W .type r)
+pub stands-new : (m : Module) → TypesOk m → (W : HeapTyping) (T : Tree live) (r p j : ℕ) → p < pages → W .owner p ≡ suc r → GoodTree m (W .type r)
     → size m (W .type r) * suc j ≤ pageBytes → Same (flat m T) (flat m (W .type r)) → Stands m W T r (pageBytes * p + size m (W .type r) * j)
-stands-new m W T r p j inside own sized fits same =
+stands-new m ok W T r p j inside own good fits same =
     spot-stands m W T r (pageBytes * p + size m (W .type r) * j) p j 0
-    (record { inside = inside; own = own; low = sized; fits = fits; address = omega arith })
-    (same-run (flat m (W .type r)) (flat m T) (distance-zero m (W .type r) (omega arith)) (same-sym (flat m T) (flat m (W .type r)) same))
+    (record { inside = inside; own = own; low = size-pos m ok (W .type r) good; fits = fits; address = omega arith })
+    (same-run (flat m (W .type r)) (flat m T) (distance-zero m (fields-plain m ok) (W .type r) (good-plain good) (good-sized m (W .type r) good)) (same-sym (flat m T) (flat m (W .type r)) same))
 
 -- ---- slots
 
@@ -222,12 +235,30 @@ module _ (m : Module) (W : HeapTyping) where
   pub slot-inside : (x : ℕ) (T : Tree live) (s : Slot m W x T) → s .distance + width T ≤ size m (W .type (s .region))
   slot-inside x T s = flat-inside m (W .type (s .region)) (s .has)
 
+  -- an untyped region has no slot
+  pub typed-slot : (x : ℕ) (T : Tree live) (s : Slot m W x T) → W .type (s .region) ≢ bytes
+  typed-slot x T s e = elim (subst (λ (L : Layout live). Has (L .prims) (s .distance) T) (flat-bytes m) (subst (λ (U : Tree live). Has (flat m U .prims) (s .distance) T) e (s .has))) [ ]
+
+  -- a slot lies apart from the bytes of an untyped region
+  pub untyped-apart : (n r a o x : ℕ) (T : Tree live) → InUntyped W n r a → o < n → Slot m W x T → (a + o < x) ⊎ (x + width T ≤ a + o)
+  untyped-apart n r a o x T h l s = go (decLt (a / pageBytes) (s .page)) (decLt (s .page) (a / pageBytes))
+    where
+      b : s .distance + width T ≤ size m (W .type (s .region))
+      b = slot-inside x T s
+
+      go : Dec (a / pageBytes < s .page) → Dec (s .page < a / pageBytes) → (a + o < x) ⊎ (x + width T ≤ a + o)
+      go (yes q) _ = inl (omega (arith, h .fits, s .address))
+      go (no _) (yes q) = inr (omega (arith, b, s .fits, s .address))
+      go (no p) (no q) =
+          let e : s .page ≡ a / pageBytes = omega arith in
+          absurd (typed-slot x T s (ap (W .type) (suc-inj (sym (s .own) ∙ ap (W .owner) e ∙ h .own)) ∙ h .untyped))
+
 -- ---- the bytes of a run
 
-module _ (m : Module) (W : HeapTyping) (T : Tree live) (r a : ℕ) (h : Stands m W T r a) where
+module _ (m : Module) (plain : PlainFields m) (W : HeapTyping) (T : Tree live) (p : Plain T) (r a : ℕ) (h : Stands m W T r a) where
   -- the run lies inside the object
   pub stands-inside : a % pageBytes % size m (W .type r) + size m T ≤ size m (W .type r)
-  stands-inside = run-size m (W .type r) T (a % pageBytes % size m (W .type r)) (h .run)
+  stands-inside = run-size m plain (W .type r) T p (a % pageBytes % size m (W .type r)) (h .run)
 
   pub stands-in-object : (i : ℕ) → a ≤ i → i < a + size m T → InObject i (a / pageBytes) (a % pageBytes / size m (W .type r)) (size m (W .type r))
   stands-in-object i low high =
@@ -237,5 +268,5 @@ module _ (m : Module) (W : HeapTyping) (T : Tree live) (r a : ℕ) (h : Stands m
   -- each of its bytes lies in a primitive of the run
   pub stands-bytes : (i : ℕ) → a ≤ i → i < a + size m T → InRun m T a i
   stands-bytes i low high =
-      let c = filled-some m T (h .run .some) (i - a) (omega arith) in
+      let c = filled-some m plain T p (h .run .some) (i - a) (omega arith) in
       record { distance = c .distance; type = c .type; has = c .has; low = omega (arith, c .low); high = omega (arith, c .high) }

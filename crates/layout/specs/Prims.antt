@@ -11,9 +11,9 @@ use lib.ListN.{length, getD, take, drop, length-append, length-map}
 use Rattle.words.specs.Choose.{cond-split, cond-ap, cond-le, cond-nle, split-le}
 use Rattle.rules.specs.Limits.{sizeLimit}
 use Rattle.words.specs.Decide.{Each, none, more}
-use Rattle.rules.specs.Types.{RegionKind, variable, Region, Tree, int, ptr, arr, struct, sub, arg}
+use Rattle.rules.specs.Types.{RegionKind, variable, Region, Tree, int, ptr, arr, struct, rawPtr, bytes, width, sub, arg, Primitive, integer, pointer, rawPointer}
 use Rattle.rules.specs.Module.{Module}
-use Rattle.rules.specs.Flat.{Placed, at, off, type, Has, here, there, Layout, single, none as noLayout, empty, moved, packed, beside, copiesOf, copies, placedIn, subLayout, flatWith, fieldsFrom, fieldsWith, layouts, flat, count}
+use Rattle.rules.specs.Flat.{Placed, at, off, type, Has, here, there, Layout, single, none as noLayout, empty, oneByte, moved, packed, beside, copiesOf, copies, placedIn, subLayout, flatWith, fieldsFrom, fieldsWith, layouts, flat, count}
 use Rattle.layout.specs.Lists.{map-append, map-map, map-same, snoc-cases}
 
 -- ---- one primitive
@@ -174,29 +174,35 @@ length-layouts m (suc n) =
 
 -- ---- a fact that goes through every flat type
 
--- what is asked of a tree's integers, outside pointers
-abbrev pub Ints : {k : RegionKind} → (ℕ → Type 0) → Tree k → Type 0
-Ints I (int w) = I w
-Ints I (ptr T r) = Unit {0}
-Ints I (arr n T) = Ints I T
-Ints I (struct N rs) = Unit {0}
+-- what is asked of a tree's integers and of untyped bytes, outside pointers
+abbrev pub Leaves : {k : RegionKind} → (ℕ → Type 0) → Type 0 → Tree k → Type 0
+Leaves I B (int w) = I w
+Leaves I B (ptr T r) = Unit {0}
+Leaves I B (arr n T) = Leaves I B T
+Leaves I B (struct N rs) = Unit {0}
+Leaves I B (rawPtr n r) = Unit {0}
+Leaves I B bytes = B
 
-pub ints-all : {k : RegionKind} (I : ℕ → Type 0) → ((w : ℕ) → I w) → (T : Tree k) → Ints I T
-ints-all I f (int w) = f w
-ints-all I f (ptr T r) = tt
-ints-all I f (arr n T) = ints-all I f T
-ints-all I f (struct N rs) = tt
+-- where nothing is asked
+pub any-leaves : {k : RegionKind} (T : Tree k) → Leaves (λ _. Unit {0}) (Unit {0}) T
+any-leaves (int w) = tt
+any-leaves (ptr T r) = tt
+any-leaves (arr n T) = any-leaves T
+any-leaves (struct N rs) = tt
+any-leaves (rawPtr n r) = tt
+any-leaves bytes = tt
 
--- P holds of one primitive (of an integer that has what is asked) and is kept by the operations that make a layout
-pub record Made (I : ℕ → Type 0) (P : (k : RegionKind) → Layout k → Type 0) : Type 0 where
-  pub onInt : (k : RegionKind) (w : ℕ) → I w → P k (single w (int w))
-  pub onPtr : (k : RegionKind) (T : Tree k) (r : Region k) → P k (single 4 (ptr T r))
+-- P holds of one primitive (of an integer that has what is asked), of an untyped byte where those are allowed, and is kept by the
+-- operations that make a layout
+pub record Made (I : ℕ → Type 0) (B : Type 0) (P : (k : RegionKind) → Layout k → Type 0) : Type 0 where
+  pub onPrim : (k : RegionKind) (T : Tree k) → Primitive T → Leaves I B T → P k (single (width T) T)
+  pub onBytes : (k : RegionKind) → B → P k oneByte
   pub onNone : (k : RegionKind) → P k noLayout
   pub onEmpty : (k : RegionKind) → P k empty
   pub onPacked : (k : RegionKind) (L M : Layout k) → P k L → P k M → P k (packed L M)
   pub onSub : (j k : RegionKind) (σ : Region j → Region k) (L : Layout j) → P j L → P k (subLayout σ L)
 
-module _ (I : ℕ → Type 0) (P : (k : RegionKind) → Layout k → Type 0) (c : Made I P) where
+module _ (I : ℕ → Type 0) (B : Type 0) (P : (k : RegionKind) → Layout k → Type 0) (c : Made I B P) where
   made-beside : (k : RegionKind) (L M : Layout k) → P k L → P k M → P k (beside L M)
   unfolding beside
   made-beside k L M p q = cond-split (P k) (leb (L .size + M .size) sizeLimit) (packed L M) noLayout (λ _. c .onPacked k L M p q) (λ _. c .onNone k)
@@ -211,23 +217,25 @@ module _ (I : ℕ → Type 0) (P : (k : RegionKind) → Layout k → Type 0) (c 
   made-copies k n L p = cond-split (P k) (leb (n * L .size) sizeLimit) (copiesOf n L) noLayout (λ _. made-copiesOf k n L p) (λ _. c .onNone k)
 
   module _ (ls : List (Layout variable)) (known : (N : ℕ) → P variable (getD ls N noLayout)) where
-    pub made-with : (k : RegionKind) (T : Tree k) → Ints I T → P k (flatWith ls T)
+    pub made-with : (k : RegionKind) (T : Tree k) → Leaves I B T → P k (flatWith ls T)
     unfolding flatWith
-    made-with k (int w) i = c .onInt k w i
-    made-with k (ptr T r) i = c .onPtr k T r
+    made-with k (int w) i = c .onPrim k (int w) integer i
+    made-with k (ptr T r) i = c .onPrim k (ptr T r) pointer i
     made-with k (arr n T) i = made-copies k n (flatWith ls T) (made-with k T i)
     made-with k (struct N rs) i = c .onSub variable k (arg rs) (getD ls N noLayout) (known N)
+    made-with k (rawPtr n r) i = c .onPrim k (rawPtr n r) rawPointer i
+    made-with k bytes i = c .onBytes k i
 
-    made-from : (L : Layout variable) {Ts : List (Tree variable)} → P variable L → Each (Ints I) Ts → P variable (fieldsFrom ls L Ts)
+    made-from : (L : Layout variable) {Ts : List (Tree variable)} → P variable L → Each (Leaves I B) Ts → P variable (fieldsFrom ls L Ts)
     unfolding fieldsFrom
     made-from L p none = p
     made-from L p (more {x = T} {xs = Ts} i u) = made-from (beside L (flatWith ls T)) (made-beside variable L (flatWith ls T) p (made-with variable T i)) u
 
-    pub made-fields : {Ts : List (Tree variable)} → Each (Ints I) Ts → P variable (fieldsWith ls Ts)
+    pub made-fields : {Ts : List (Tree variable)} → Each (Leaves I B) Ts → P variable (fieldsWith ls Ts)
     unfolding fieldsWith
     made-fields u = made-from empty (c .onEmpty variable) u
 
-  module _ (m : Module) (fields : (N : ℕ) → N < m .structs → Each (Ints I) (m .fields N)) where
+  module _ (m : Module) (fields : (N : ℕ) → N < m .structs → Each (Leaves I B) (m .fields N)) where
     pub made-layouts : (n : ℕ) → n ≤ m .structs → (N : ℕ) → P variable (getD (layouts m n) N noLayout)
     unfolding layouts
     made-layouts zero h N = c .onNone variable
@@ -235,6 +243,6 @@ module _ (I : ℕ → Type 0) (P : (k : RegionKind) → Layout k → Type 0) (c 
         snoc-cases (λ _. P variable) (layouts m n) (fieldsWith (layouts m n) (m .fields n)) noLayout (λ i _. made-layouts n (omega arith) i)
         (made-fields (layouts m n) (made-layouts n (omega arith)) (fields n (omega arith))) (λ _ _. c .onNone variable) N
 
-    pub made-flat : {k : RegionKind} (T : Tree k) → Ints I T → P k (flat m T)
+    pub made-flat : {k : RegionKind} (T : Tree k) → Leaves I B T → P k (flat m T)
     unfolding flat
     made-flat {k} T i = made-with (layouts m (m .structs)) (made-layouts (m .structs) (omega arith)) k T i

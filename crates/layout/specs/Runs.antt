@@ -22,7 +22,7 @@ use Rattle.rules.specs.Flat.{Placed, at, off, type, Has, here, Layout, moved, p
 use Rattle.layout.specs.TypesOk.{GoodTree, TypesOk}
 use Rattle.layout.specs.Lists.{each-at, getD-map}
 use Rattle.layout.specs.Prims.{moved-moved, moved-zero, moved-off, placed-off, placed-moved, has-moved, has-take, has-drop, at-has, nth, count-copiesOf, copies-sized, count-sub}
-use Rattle.layout.specs.Flat.{Ordered, ordered-flat, has-inside, flat-inside, flat-basic, basic-wide, distance-zero, filled-some, flat-arr, flat-prim, element-sized, flat-sub}
+use Rattle.layout.specs.Flat.{Ordered, ordered-flat, has-inside, flat-inside, flat-basic, basic-wide, PlainFields, Plain, distance-zero, filled-some, flat-arr, flat-prim, element-sized, flat-sub}
 
 -- ---- positions
 
@@ -213,7 +213,7 @@ module _ {k : RegionKind} where
           each = λ j l. nth-copies n L i j h l ∙ ap (λ (x : ℕ). moved x (nth L j)) (sym distance-copies);
         })
 
-  module _ (m : Module) (n : ℕ) (T : Tree k) (i : ℕ) (h : i < n) (sized : size m (arr n T) ≤ sizeLimit) where
+  module _ (m : Module) (plain : PlainFields m) (n : ℕ) (T : Tree k) (p : Plain T) (i : ℕ) (h : i < n) (sized : size m (arr n T) ≤ sizeLimit) where
     array-is : flat m (arr n T) ≡ copiesOf n (flat m T)
     array-is = flat-arr m n T ∙ copies-sized n (flat m T) (element-sized m n T sized)
 
@@ -221,7 +221,7 @@ module _ {k : RegionKind} where
     first-at-zero =
         let one : 1 * size m T ≤ n * size m T = mul-le-mul-right {m = 1} {n = n} (size m T) (omega arith) in
         let all = element-sized m n T sized in
-        distance-zero m T (omega arith)
+        distance-zero m plain T p (omega arith)
 
     -- element i of an array stands at position i * count and distance i * size
     pub has-element : 0 < count (flat m T) → Run (flat m (arr n T)) (i * count (flat m T)) (flat m T)
@@ -258,12 +258,12 @@ module _ {k : RegionKind} where
 
   -- ---- a run lies inside
 
-  pub run-size : (m : Module) (T U : Tree k) (o : ℕ) → RunAt (flat m T) o (flat m U) → o + size m U ≤ size m T
-  run-size m T U o r = go (lt-or-le 0 (size m U))
+  pub run-size : (m : Module) → PlainFields m → (T U : Tree k) → Plain U → (o : ℕ) → RunAt (flat m T) o (flat m U) → o + size m U ≤ size m T
+  run-size m plain T U p o r = go (lt-or-le 0 (size m U))
     where
       go : (0 < size m U) ⊎ (size m U ≤ 0) → o + size m U ≤ size m T
       go (inl h) =
-          let c = filled-some m U (r .some) (size m U - 1) (omega arith) in
+          let c = filled-some m plain U p (r .some) (size m U - 1) (omega arith) in
           omega (arith, c .high, flat-inside m T (run-has (flat m T) o (flat m U) r (c .has)))
       go (inr h) = omega (arith, flat-inside m T (run-has (flat m T) o (flat m U) r (at-has (flat m U .prims) 0 (at 0 (int 0)) (r .some))))
 

@@ -1,25 +1,27 @@
 -- The auditor's question: for a module that is accepted, and a form not seen yet, which bytes can a read reach? `reach`: a load's value
--- is decided by the run that its pointer's type names, whole inside one object of a live region in scope. `only-named-bytes`: over a
--- whole run, page bytes bear on what it does, answers and writes out through those runs alone. Assumes nothing.
+-- is decided by the run that its pointer's type names, whole inside one object of a live region in scope, or by its pointer's untyped
+-- bytes, inside one page of a live untyped region in scope. `only-named-bytes`: over a whole run, page bytes bear on what it does, answers
+-- and writes out through those alone. Assumes nothing.
 use mathlib.Core.Path.{_≡_, refl, sym, ap, ap₂, _∙_, subst}
 use mathlib.Core.Bool.{Bool, true, false, true≢false, false≢true}
+use mathlib.Core.Logic.{_⊎_, inl, inr}
 use mathlib.Core.List.{List, [], _∷_}
 use Prim.Native.Nat.{ℕ, zero, suc, _+_, _<_, _≤_}
 use lib.Dec.{eqb}
 use borrow.Author.Tests.{eqb-true}
 use Rattle.words.specs.Bytes.{Bytes, AllBytes, byteAt}
 use Rattle.rules.specs.Limits.{memoryBytes}
-use Rattle.rules.specs.Types.{variable, Variable, Tree, ptr}
+use Rattle.rules.specs.Types.{variable, Variable, Tree, ptr, rawPtr}
 use Rattle.rules.specs.Module.{Module}
 use Rattle.rules.specs.Decode.{moduleOf}
 use Rattle.rules.specs.Verdict.{verdictOf, IsAccepted}
 use Rattle.rules.specs.State.{View, view, memoryPlace, memoryNumber}
 use Rattle.rules.specs.Heap.{close}
-use Rattle.rules.specs.Step.{Effect, assign, fetch, save, takePlace, grantPage, freePlace, goTo, emit, push, pop, finish, stop, stuck, effectOf}
+use Rattle.rules.specs.Step.{Effect, assign, fetch, save, takePlaces, grantPage, freePlace, goTo, emit, push, pop, finish, stop, stuck, effectOf}
 use Rattle.rules.specs.Writes.{applyState, applyOutput}
 use Rattle.rules.specs.Run.{Step, topOf, stepOf, stateAfter, outputAfter, Trace, noSteps, runOf}
 use Rattle.rules.specs.StateTest.{Passes}
-use Rattle.rules.specs.SafeStep.{InRun, Touches, SameButPages, Reads, SafeStep}
+use Rattle.rules.specs.SafeStep.{InRun, Touches, TouchesBytes, SameButPages, Reads, SafeStep}
 use Rattle.state.specs.Update.{memoryNumber-agree}
 use Rattle.state.specs.Touched.{load-of}
 use Rattle.state.specs.Areas.{memory-agree}
@@ -28,20 +30,35 @@ use Rattle.soundness.specs.Facts.{ModuleOk, accepted-ok}
 use Rattle.soundness.specs.Sound.{topFrame}
 use Rattle.soundness.specs.ForCode.{Steady, step-steady}
 
--- Address i lies in the run that the type of a load's pointer register names, in state v with top frame k.
-pub record NamedBy (m : Module) (v : View) (k b x i : ℕ) : Type 0 where
+-- Address i lies in the run that the type of a load's pointer register names, in state v with top frame k; or in the bytes that an untyped
+-- pointer register names.
+pub record NamedRun (m : Module) (v : View) (k b x i : ℕ) : Type 0 where
   pub target : Tree variable
   pub within : Variable
   pub type : m .function (v .fn k) .registerType b ≡ ptr target within
   pub inside : InRun m (close (v .map k) target) x i
+
+pub record NamedBytes (m : Module) (v : View) (k b i : ℕ) : Type 0 where
+  pub count : ℕ
+  pub within : Variable
+  pub type : m .function (v .fn k) .registerType b ≡ rawPtr count within
+  pub inside : (v .reg k b ≤ i) × (i < v .reg k b + count)
+
+abbrev pub NamedBy : Module → View → (k b x i : ℕ) → Type 0
+NamedBy m v k b x i = NamedRun m v k b x i ⊎ NamedBytes m v k b i
+
+-- what is touched is named
+touched-named : (m : Module) (v : View) (k b x w : ℕ) → Touches m v k b x w ⊎ TouchesBytes m v k b x w → (i : ℕ) → x ≤ i → i < x + w → NamedBy m v k b x i
+touched-named m v k b x w (inl t) i l h = inl (record { target = t .target; within = t .within; type = t .names .register .1; inside = t .bytes i l h })
+touched-named m v k b x w (inr t) i l h = inr (record { count = t .count; within = t .within; type = t .names .register .1; inside = t .bytes i l h })
 
 -- the page bytes that an effect's pointer names: a load's
 abbrev pub Named : Module → View → ℕ → Effect → ℕ → Type 0
 Named m v k (assign a x) i = ⊥
 Named m v k (fetch b a x w) i = NamedBy m v k b x i
 Named m v k (save b x w y) i = ⊥
-Named m v k (takePlace p j n a) i = ⊥
-Named m v k (grantPage p r a) i = ⊥
+Named m v k (takePlaces p j c n a) i = ⊥
+Named m v k (grantPage p r c a) i = ⊥
 Named m v k (freePlace p j) i = ⊥
 Named m v k (goTo d) i = ⊥
 Named m v k (emit x) i = ⊥
@@ -58,11 +75,11 @@ AgreeOnNamed m form t s =
 
 -- ---- one load
 
--- What a load through register b at address x of w bytes can reach: the run that the pointer's type names, inside one object; and every
--- state that agrees on it, whatever its other page bytes are, gives the same value.
+-- What a load through register b at address x of w bytes can reach: what the pointer's type names, inside one object or one untyped
+-- page; and every state that agrees on it, whatever its other page bytes are, gives the same value.
 pub record Reach (m : Module) (s : Bytes) (b x w : ℕ) : Type 0 where
-  pub named : Touches m (view s) (topFrame s) b x w
-  pub decides : (t : Bytes) → ((i : ℕ) → i < memoryBytes → InRun m (close (view s .map (topFrame s)) (named .target)) x i → byteAt t (memoryPlace i) ≡ byteAt s (memoryPlace i))
+  pub named : Touches m (view s) (topFrame s) b x w ⊎ TouchesBytes m (view s) (topFrame s) b x w
+  pub decides : (t : Bytes) → ((i : ℕ) → i < memoryBytes → NamedBy m (view s) (topFrame s) b x i → byteAt t (memoryPlace i) ≡ byteAt s (memoryPlace i))
       → memoryNumber (view t .memory) x w ≡ memoryNumber (view s .memory) x w
 
 -- equal bytes, equal numbers
@@ -75,7 +92,7 @@ pub reach : (f form s : Bytes) (b a x w : ℕ) → IsAccepted (verdictOf f) → 
     → effectOf (moduleOf f) form (view s) ≡ fetch b a x w → Reach (moduleOf f) s b x w
 reach f form s b a x w acc h l p z e =
     let t = step-steady (moduleOf f) (accepted-ok f acc) form h s [] (record { bytes = l; passes = p }) z .safe .loads b a x w e in
-    record { named = t; decides = λ u g. number-same u s x w (λ i c d o. g i o (t .bytes i c d)) }
+    record { named = t; decides = λ u g. number-same u s x w (λ i c d o. g i o (touched-named (moduleOf f) (view s) (topFrame s) b x w t i c d)) }
 
 -- ---- a whole run
 
@@ -102,7 +119,7 @@ reads-named m form s o h e d i r =
     let l = load-of e i r in
     let t = h .loads (l .through) (l .register) (l .address) (l .bytes) (d ∙ l .is) in
     subst (λ (x : Effect). Named m (view s) (topFrame s) x i) (sym (l .is))
-    (record { target = t .target; within = t .within; type = t .names .register .1; inside = t .bytes i (l .low) (l .high) })
+    (touched-named m (view s) (topFrame s) (l .through) (l .address) (l .bytes) t i (l .low) (l .high))
 
 module _ (m : Module) (ok : ModuleOk m) (form : Bytes) (form-bytes : AllBytes form) where
   -- one step of both
@@ -161,7 +178,7 @@ module _ (m : Module) (ok : ModuleOk m) (form : Bytes) (form-bytes : AllBytes fo
 
 -- The answer to the auditor, over a whole run of an accepted module with any form and budget, from a state that passes the test: a state t
 -- that differs from s in page bytes only, in any way, does the same steps with the same effects, writes out the same bytes and leaves
--- the same state but for page bytes, if before each load the two agree on the run that the load's pointer type names.
+-- the same state but for page bytes, if before each load the two agree on the run, or the untyped bytes, that the load's pointer type names.
 pub only-named-bytes : (f form : Bytes) (b : ℕ) (t s o : Bytes) → IsAccepted (verdictOf f) → AllBytes form → AllBytes s → Passes (moduleOf f) s → SameButPages t s
     → AgreeOnRun (moduleOf f) form b t s o → SameRun (runOf (moduleOf f) form b t o) (runOf (moduleOf f) form b s o)
 only-named-bytes f form b t s o acc h l p = same-run (moduleOf f) (accepted-ok f acc) form h b t s o (record { bytes = l; passes = p })

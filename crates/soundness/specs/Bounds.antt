@@ -1,23 +1,24 @@
 -- A safe effect of a good state keeps within the layout's bounds, so the bytes that it leaves are those of the view after it.
 -- Assumes nothing.
 use mathlib.Core.Path.{_≡_, _∙_, subst}
+use mathlib.Core.Logic.{⊎-elim}
 use Prim.Native.Nat.{ℕ, suc, _+_, _-_, _^_, _<_, _≤_}
 use native.Mathlib.Nat.{le-trans, pow-le-pow-right, suc-inj}
 use native.Mathlib.Decide.{decLt}
 use native.Mathlib.Omega.{arith}
-use Rattle.rules.specs.Limits.{liveRegions, outputBytes}
-use Rattle.rules.specs.Types.{region, width, arg}
+use Rattle.rules.specs.Limits.{memoryBytes, liveRegions, outputBytes}
+use Rattle.rules.specs.Types.{live, Tree, region, width, arg}
 use Rattle.rules.specs.Module.{Module, argument}
 use Rattle.rules.specs.State.{View}
 use Rattle.rules.specs.Heap.{close, Live, HeapTyping, heapTyping, Value}
-use Rattle.rules.specs.Step.{Effect, assign, fetch, save, takePlace, grantPage, freePlace, goTo, emit, push, pop, finish, stop, stuck}
+use Rattle.rules.specs.Step.{Effect, assign, fetch, save, takePlaces, grantPage, freePlace, goTo, emit, push, pop, finish, stop, stuck}
 use Rattle.layout.specs.Close.{close-width}
-use Rattle.layout.specs.Heap.{value-bound, slot-inside}
+use Rattle.layout.specs.Heap.{Slot, value-bound, slot-inside}
 use Rattle.state.specs.Effects.{Onward, InRegister, Bounded}
 use Rattle.soundness.specs.Facts.{ModuleOk}
 use Rattle.soundness.specs.Good.{Good, map-numbered}
 use Rattle.soundness.specs.Preserve.{SafePush}
-use Rattle.soundness.specs.Safe.{Next, Safe}
+use Rattle.soundness.specs.Safe.{Next, UntypedByte, SafeFetch, SafeSave, Safe}
 
 module _ (m : Module) (ok : ModuleOk m) (v : View) (k : ℕ) (g : Good m v (suc k)) where
   -- a value of a register of frame j is a number of four bytes
@@ -68,6 +69,19 @@ module _ (m : Module) (ok : ModuleOk m) (v : View) (k : ℕ) (g : Good m v (suc 
             rw (f .values a l) (register-value (heapTyping m v (suc k)) k x (v .reg k x) (omega arith) (f .rule .arguments a l .0) (g .registers k (omega arith) x (f .rule .arguments a l .0)))
         go (no n) = rw (f .zeros a (omega arith)) (omega arith)
 
+  -- what is loaded and stored lies in the pages
+  slot-in : (x w : ℕ) (T : Tree live) → w ≡ width T → Slot m (heapTyping m v (suc k)) x T → x + w ≤ memoryBytes
+  slot-in x w T e s = omega (arith, e, slot-inside m (heapTyping m v (suc k)) x T s, s .address, s .fits, s .inside)
+
+  byte-in : (x w : ℕ) → UntypedByte m v k x w → x + w ≤ memoryBytes
+  byte-in x w s = omega (arith, s .inside .inside, s .inside .fits, s .below, s .address, s .one)
+
+  pub load-inside : (b a x w : ℕ) → SafeFetch m v k b a x w → x + w ≤ memoryBytes
+  load-inside b a x w f = ⊎-elim (slot-in x w (close (v .map k) (m .function (v .fn k) .registerType a)) (f .bytes)) (λ s. byte-in x w (s .1)) (f .from)
+
+  store-inside : (b x w y : ℕ) → SafeSave m v k b x w y → x + w ≤ memoryBytes
+  store-inside b x w y f = ⊎-elim (λ s. slot-in x w (s .type) (s .bytes) (s .slot)) (byte-in x w) (f .what)
+
   pub bounded : v .outputCount ≤ outputBytes → (e : Effect) → Safe m v k e → Bounded v k e
   bounded o (assign a x) f = (onward (f .next), held (heapTyping m v (suc k)) k a x (omega arith) (f .register) (f .value))
   bounded o (fetch b a x w) f =
@@ -78,24 +92,19 @@ module _ (m : Module) (ok : ModuleOk m) (v : View) (k : ℕ) (g : Good m v (suc 
           rw (f .bytes ∙ close-width (v .map k) (m .function (v .fn k) .registerType a)) (facts .registerWidth a (f .register) .1),
         ),
       )
-  bounded o (save b x w y) f =
-      let s = f .slot in
-      (onward (f .next), omega (arith, f .bytes, slot-inside m (heapTyping m v (suc k)) x (f .type) (f .slot), s .address, s .fits, s .inside))
-  bounded o (takePlace p j n a) f =
+  bounded o (save b x w y) f = (onward (f .next), store-inside b x w y f)
+  bounded o (takePlaces p j c n a) f =
       let facts = ok .function (v .fn k) (g .frames .known k (omega arith)) in (
         onward (f .register .next),
-        record {
-          held = record { page = f .inside; place = f .place };
-          bytes = omega (arith, f .fits);
-          register = omega (arith, f .register .register, facts .ranges .registers);
-        },
+        record { page = f .inside; places = f .places; bytes = f .fits; register = omega (arith, f .register .register, facts .ranges .registers) },
       )
-  bounded o (grantPage p r a) f =
+  bounded o (grantPage p r c a) f =
       let facts = ok .function (v .fn k) (g .frames .known k (omega arith)) in (
         onward (f .register .next),
         record {
           page = f .inside;
           owner = omega (arith, live-small r (f .alive));
+          places = f .places;
           register = omega (arith, f .register .register, facts .ranges .registers);
         },
       )

@@ -17,7 +17,8 @@ use Rattle.words.specs.Choose.{both, both-of, true-not-false, cond-yes, cond-eq
 use Rattle.rules.specs.Limits.{pageBytes, memoryBytes, mostForm, outputBytes, stateBytes, memoryAt, badInput, badLength, badState, notRunning}
 use Rattle.words.specs.Decide.{does}
 use Rattle.rules.specs.Module.{Module}
-use Rattle.rules.specs.Flat.{size}
+use Rattle.rules.specs.Types.{live}
+use Rattle.rules.specs.Flat.{Layout, flat, count}
 use Rattle.rules.specs.Decode.{moduleOf}
 use Rattle.rules.specs.Verdict.{verdictOf, IsAccepted}
 use Rattle.rules.specs.State.{View, view, memoryPlace, pagePlace, allPages}
@@ -186,22 +187,25 @@ pub record Inside (a : ℕ) (p : Part) : Type 0 where
 object-in : (m : Module) (v : View) (a x : ℕ) → a < memoryBytes → 0 < objectIn m v a x .size → Inside a (objectIn m v a x)
 unfolding objectIn
 object-in m v a zero h l = absurd (not-suc-le-zero l)
-object-in m v a (suc r) h l = go (size m (typeOf m (v .fn) (v .map) (v .frames) r)) l
+object-in m v a (suc r) h l = go (flat m (typeOf m (v .fn) (v .map) (v .frames) r)) l
   where
     found : ℕ → Bool → Part
     found s b = cond b (record { offset = pagePlace (a / pageBytes) + s * (a % pageBytes / s); size = s }) emptyPart
 
-    inside : (s : ℕ) (b : Bool) → ltb 0 s && leb (s * suc (a % pageBytes / s)) pageBytes ≡ b → 0 < found s b .size → Inside a (found s b)
-    inside s true e l =
-        let q = both (ltb 0 s) (leb (s * suc (a % pageBytes / s)) pageBytes) e in
+    inside : (s c : ℕ) (b : Bool) → (ltb 0 s && ltb 0 c) && leb (s * suc (a % pageBytes / s)) pageBytes ≡ b → 0 < found s b .size → Inside a (found s b)
+    inside s c true e l =
+        let q = both (ltb 0 s && ltb 0 c) (leb (s * suc (a % pageBytes / s)) pageBytes) e in
         let p : s * suc (a % pageBytes / s) ≤ pageBytes = leb-true (s * suc (a % pageBytes / s)) pageBytes (q .1) in
         let d : s * (a % pageBytes / s) + a % pageBytes % s ≡ a % pageBytes = div-add-mod (a % pageBytes) s in
-        let o : a % pageBytes % s < s = mod-lt (a % pageBytes) (ltb-true 0 s (q .0)) in
+        let o : a % pageBytes % s < s = mod-lt (a % pageBytes) (ltb-true 0 s (both (ltb 0 s) (ltb 0 c) (q .0) .0)) in
         record { low = omega arith; high = omega arith; start = omega arith; end = omega arith }
-    inside s false e l = absurd (not-suc-le-zero l)
+    inside s c false e l = absurd (not-suc-le-zero l)
 
-    go : (s : ℕ) → 0 < found s (ltb 0 s && leb (s * suc (a % pageBytes / s)) pageBytes) .size → Inside a (found s (ltb 0 s && leb (s * suc (a % pageBytes / s)) pageBytes))
-    go s l = inside s (ltb 0 s && leb (s * suc (a % pageBytes / s)) pageBytes) refl l
+    tested : Layout live → Bool
+    tested L = (ltb 0 (L .size) && ltb 0 (count L)) && leb (L .size * suc (a % pageBytes / L .size)) pageBytes
+
+    go : (L : Layout live) → 0 < found (L .size) (tested L) .size → Inside a (found (L .size) (tested L))
+    go L l = inside (L .size) (count L) (tested L) refl l
 
 -- an unowned page has no object
 none-outside : (m : Module) (v : View) (a x : ℕ) → x ≡ 0 → 0 < objectIn m v a x .size → 0 < 0

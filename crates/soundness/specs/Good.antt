@@ -23,7 +23,7 @@ use Rattle.rules.specs.StateTest.{Chained, FramesOk}
 use Rattle.state.specs.Regions.{length-localList}
 use Rattle.soundness.specs.Fresh.{In, in-head, in-tail, in-left, in-right}
 use Rattle.layout.specs.Types.{close-agree, close-sub, Outer, outer-close}
-use Rattle.layout.specs.Close.{has-close}
+use Rattle.layout.specs.Close.{has-close-region}
 use Rattle.layout.specs.Heap.{Slot}
 use Rattle.typing.specs.Facts.{FunctionFacts}
 use Rattle.soundness.specs.Facts.{ModuleOk}
@@ -192,7 +192,7 @@ module _ (m : Module) (ok : ModuleOk m) (fn pc : ℕ → ℕ) (map : ℕ → ℕ
       let inside : i < regions g = omega (arith, l .local .below) in
       let known : fn k < m .functions = s .known k (l .below) in
       let e : typeOf m fn map n r ≡ close (map k) (g .regionType i) = ap (typeOf m fn map n) (sym (suc-inj (l .local .is))) ∙ map-typed k i (l .below) inside in
-      let c = has-close (map k) m (ok .types) (g .regionType i) (ok .types .regionTypes (fn k) i known inside) (regions g) d q (ok .function (fn k) known .regionScope i inside)
+      let c = has-close-region (map k) m (ok .types) (g .regionType i) (ok .types .regionTypes (fn k) i known inside) (regions g) d q (ok .function (fn k) known .regionScope i inside)
       (subst (λ (T : Tree live). Has (flat m T .prims) d q) e h) in
       rw (c .2) (outer-close P (map k) (regions g) (c .0) (c .1) f)
 

@@ -75,24 +75,24 @@ not-one-count k h =
 
 -- ---- "one that stops with 34 while a page is free"
 
--- a stop of the allocator: no page of the region has an unused place, and no page is unowned
-pub record Full (owner : ℕ → ℕ) (mark : ℕ → ℕ → ℕ) (lo hi r s : ℕ) : Type 0 where
-  pub room : (p : ℕ) → lo ≤ p → p < hi → hasRoom owner (hasPlace mark (placesInPage s)) r p ≡ false
+-- a stop of the allocator: no page of the region has c unused places in a row, and no page is unowned
+pub record Full (owner : ℕ → ℕ) (mark : ℕ → ℕ → ℕ) (lo hi r s c : ℕ) : Type 0 where
+  pub room : (p : ℕ) → lo ≤ p → p < hi → hasRoom owner (hasPlace mark (placesInPage s) c) r p ≡ false
   pub free : (p : ℕ) → lo ≤ p → p < hi → owner p ≢ 0
 
-module _ (owner : ℕ → ℕ) (mark : ℕ → ℕ → ℕ) (lo hi r s a n : ℕ) (l : lo ≤ hi) where
-  pub full-when-stopped : allocate owner mark lo hi r s a ≡ stop n → Full owner mark lo hi r s
+module _ (owner : ℕ → ℕ) (mark : ℕ → ℕ → ℕ) (lo hi r s c a n : ℕ) (l : lo ≤ hi) where
+  pub full-when-stopped : allocate owner mark lo hi r s c a ≡ stop n → Full owner mark lo hi r s c
   unfolding allocate roomPage unownedPage
   full-when-stopped =
-      split-lt (λ (e : Effect). e ≡ stop n → Full owner mark lo hi r s) (roomPage owner (hasPlace mark (placesInPage s)) lo hi r) hi _ _
+      split-lt (λ (e : Effect). e ≡ stop n → Full owner mark lo hi r s c) (roomPage owner (hasPlace mark (placesInPage s) c) lo hi r) hi _ _
       (λ h e. let z : _≡_ {A = ℕ} 0 1 = cc in absurd (omega arith))
       (λ h.
-      split-lt (λ (e : Effect). e ≡ stop n → Full owner mark lo hi r s) (unownedPage owner lo hi) hi _ _
+      split-lt (λ (e : Effect). e ≡ stop n → Full owner mark lo hi r s c) (unownedPage owner lo hi) hi _ _
       (λ k e. let z : _≡_ {A = ℕ} 0 1 = cc in absurd (omega arith))
       (λ k e.
-      let p = firstFrom-least (λ p. not (hasRoom owner (hasPlace mark (placesInPage s)) r p)) lo (hi - lo) in
+      let p = firstFrom-least (λ p. not (hasRoom owner (hasPlace mark (placesInPage s) c) r p)) lo (hi - lo) in
       let q = firstFrom-least (λ p. not (eqb (owner p) 0)) lo (hi - lo) in
       record {
-        room = λ i b c. not-true (hasRoom owner (hasPlace mark (placesInPage s)) r i) (p .before i b (omega arith));
-        free = λ i b c z. true-not-false (eq-eqb (owner i) 0 z) (not-true (eqb (owner i) 0) (q .before i b (omega arith)));
+        room = λ i b d. not-true (hasRoom owner (hasPlace mark (placesInPage s) c) r i) (p .before i b (omega arith));
+        free = λ i b d z. true-not-false (eq-eqb (owner i) 0 z) (not-true (eqb (owner i) 0) (q .before i b (omega arith)));
       }))

@@ -1,10 +1,10 @@
 -- Document 02, P1, of a step by a safe effect: what is handed out was free, is used from then on and all zeros, and the register has its
--- address; what is cleared is the place that is handed out or the page that is granted, so no other free object's bytes change but by a
+-- address; what is cleared are the places that are handed out or the page that is granted, so no other free object's bytes change but by a
 -- store, and a used one's by a store alone; and a used object stays so until a free or a return. Assumes nothing.
 use mathlib.Core.Path.{_≡_, refl, sym, ap, ap₂, _∙_, subst}
 use mathlib.Core.Bool.{Bool, true, false, cond}
 use mathlib.Core.Logic.{_⊎_, inl, inr, _≢_}
-use Prim.Native.Nat.{ℕ, suc, _+_, _*_, _<_, _≤_}
+use Prim.Native.Nat.{ℕ, suc, _+_, _*_, _-_, _<_, _≤_}
 use native.Mathlib.Nat.{mul-le-mul-left, mul-le-mul-right}
 use native.Mathlib.Decide.{ℕ-discrete, decLt, decLe}
 use native.Mathlib.Omega.{arith}
@@ -15,15 +15,14 @@ use Rattle.rules.specs.Module.{Module}
 use Rattle.rules.specs.Flat.{size}
 use Rattle.rules.specs.State.{View, view, memoryPlace}
 use Rattle.rules.specs.Heap.{typeOf}
-use Rattle.rules.specs.Step.{Effect, assign, fetch, save, takePlace, grantPage, freePlace, goTo, emit, push, pop, finish, stop, stuck, closes}
+use Rattle.rules.specs.Step.{Effect, assign, fetch, save, takePlaces, grantPage, freePlace, goTo, emit, push, pop, finish, stop, stuck, closes}
 use Rattle.rules.specs.Footprint.{Span, footprint, Within}
 use Rattle.rules.specs.Run.{Step, stateAfter}
 use Rattle.rules.specs.SafeStep.{InObject, Changes, placeBytes, InPlace, HandsOut, place, page, Taken, NewTaken, Differs, NewZero, FreeKept, UsedKept, UsedStays}
-use Rattle.state.specs.Update.{upd, upd2, upd-same}
+use Rattle.state.specs.Update.{upd2, upd2-same, upd2-cases, setMarks-cases, setMarks-in}
 use Rattle.state.specs.Apply.{apply}
 use Rattle.state.specs.Touched.{clear-of, byTake, byGrant}
 use Rattle.soundness.specs.Good.{Good}
-use Rattle.soundness.specs.Preserve.{upd2-cases}
 use Rattle.soundness.specs.Safe.{SafeTake, SafeGrant, Safe}
 
 decWithin : (s : Span) (i : ℕ) → Dec (Within s i)
@@ -35,14 +34,14 @@ decWithin s i = decBoth (decLe (s .from) i) (decLt i (s .from + s .bytes))
 same-page : (s i p j q : ℕ) → InObject i p j s → pageBytes * q ≤ i → i < pageBytes * q + pageBytes → p ≡ q
 same-page s i p j q h low high = omega (arith, h .low, h .high, h .whole, low, high)
 
--- an address in places j and k of a page, of the same size
-same-place : (s i p j k : ℕ) → InObject i p j s → pageBytes * p + s * k ≤ i → i < pageBytes * p + s * k + s → j ≡ k
-same-place s i p j k h low high = go (decLt j k) (decLt k j)
+-- an address in place j of a page, and in c places of the same size from place q on: place j is one of them
+one-of : (s i p j q c : ℕ) → InObject i p j s → pageBytes * p + s * q ≤ i → i < pageBytes * p + s * q + s * c → (q ≤ j) × (j < q + c)
+one-of s i p j q c h low high = go (decLt j q) (decLt j (q + c))
   where
-    go : Dec (j < k) → Dec (k < j) → j ≡ k
+    go : Dec (j < q) → Dec (j < q + c) → (q ≤ j) × (j < q + c)
     go (yes l) _ = absurd (omega (arith, h .high, low, mul-le-mul-left s l))
-    go (no n) (yes l) = absurd (omega (arith, h .low, high, mul-le-mul-left s l))
-    go (no n) (no l) = omega arith
+    go (no n) (yes l) = (omega arith, l)
+    go (no n) (no l) = let past : q + c ≤ j = omega arith in absurd (omega (arith, h .low, high, mul-le-mul-left s past))
 
 -- a place with an address has one of a page's marks
 marked-place : (s i p j : ℕ) → InObject i p j s → j < pageBytes
@@ -54,40 +53,39 @@ marked-place s i p j h =
 -- ---- of a safe effect of top frame k
 
 module _ (m : Module) (v : View) (k : ℕ) (frame : v .frames ≡ suc k) where
-  -- the place that is handed out has the bytes of its page's objects
-  taken-size : (p j n a : ℕ) → SafeTake m v k p j n a → placeBytes m v (v .owner p) ≡ n
-  taken-size p j n a f = ap (placeBytes m v) (f .own) ∙ ap (λ (x : ℕ). size m (typeOf m (v .fn) (v .map) x (f .region))) frame ∙ sym (f .size)
+  -- a place that is handed out has the bytes of its page's objects
+  taken-size : (p j c n a : ℕ) → SafeTake m v k p j c n a → placeBytes m v (v .owner p) ≡ n
+  taken-size p j c n a f = ap (placeBytes m v) (f .own) ∙ ap (λ (x : ℕ). size m (typeOf m (v .fn) (v .map) x (f .region))) frame ∙ sym (f .size)
 
   -- what is cleared is handed out
   cleared-handed : (e : Effect) → Safe m v k e → (p j i : ℕ) → InPlace m v p j i → Within (footprint e .clears) i → HandsOut e p j
   cleared-handed e f p j i h w = elim (clear-of e i w) [
-    | byTake q o n a d c ↦
-        let t : SafeTake m v k q o n a = subst (λ (x : Effect). Safe m v k x) d f in
-        let at : p ≡ q = same-page _ i p j q (h .inside) (omega (arith, c)) (omega (arith, c, t .fits)) in
-        let inside : InObject i q j n = subst (λ (s : ℕ). InObject i q j s) (taken-size q o n a t) (subst (λ (x : ℕ). InObject i x j (placeBytes m v (v .owner x))) at (h .inside)) in
-        let same : j ≡ o = same-place n i q j o inside (c .0) (c .1) in
-        place n a (d ∙ sym (λ z. takePlace (at z) (same z) n a))
-    | byGrant q r a d c ↦ page r a (d ∙ sym (ap (λ (x : ℕ). grantPage x r a) (same-page _ i p j q (h .inside) (c .0) (c .1))))
+    | byTake q o c n a d u ↦
+        let t : SafeTake m v k q o c n a = subst (λ (x : Effect). Safe m v k x) d f in
+        let at : p ≡ q = same-page _ i p j q (h .inside) (omega (arith, u)) (omega (arith, u, t .fits)) in
+        let inside : InObject i q j n = subst (λ (s : ℕ). InObject i q j s) (taken-size q o c n a t) (subst (λ (x : ℕ). InObject i x j (placeBytes m v (v .owner x))) at (h .inside)) in
+        let one = one-of n i q j o c inside (u .0) (u .1) in
+        place o c n a (d ∙ sym (ap (λ (x : ℕ). takePlaces x o c n a) at)) (one .0) (one .1)
+    | byGrant q r c a d u ↦ page r c a (d ∙ sym (ap (λ (x : ℕ). grantPage x r c a) (same-page _ i p j q (h .inside) (u .0) (u .1))))
   ]
 
   -- what is handed out is cleared
   handed-cleared : (e : Effect) → Safe m v k e → (p j i : ℕ) → InPlace m v p j i → HandsOut e p j → Within (footprint e .clears) i
-  handed-cleared e f p j i h (place n a d) =
-      let t : SafeTake m v k p j n a = subst (λ (x : Effect). Safe m v k x) d f in
-      let inside : InObject i p j n = subst (λ (s : ℕ). InObject i p j s) (taken-size p j n a t) (h .inside) in
-      subst (λ (x : Effect). Within (footprint x .clears) i) (sym d) (inside .low, omega (arith, inside .high))
-  handed-cleared e f p j i h (page r a d) =
+  handed-cleared e f p j i h (place q c n a d l u) =
+      let t : SafeTake m v k p q c n a = subst (λ (x : Effect). Safe m v k x) d f in
+      let inside : InObject i p j n = subst (λ (s : ℕ). InObject i p j s) (taken-size p q c n a t) (h .inside) in
+      subst (λ (x : Effect). Within (footprint x .clears) i) (sym d) (omega (arith, inside .low, mul-le-mul-left n l), omega (arith, inside .high, mul-le-mul-left n u))
+  handed-cleared e f p j i h (page r c a d) =
       subst (λ (x : Effect). Within (footprint x .clears) i) (sym d) (omega (arith, h .inside .low), omega (arith, h .inside .high, h .inside .whole))
 
   -- what is handed out was not used
   handed-unused : Good m v (suc k) → (e : Effect) → Safe m v k e → (p j i : ℕ) → InPlace m v p j i → HandsOut e p j → v .mark p j ≡ 0
-  handed-unused g e f p j i h (place n a d) = subst (λ (x : Effect). Safe m v k x) d f .unused
-  handed-unused g e f p j i h (page r a d) = g .marks p (h .page) j (marked-place _ i p j (h .inside)) (subst (λ (x : Effect). Safe m v k x) d f .unowned)
+  handed-unused g e f p j i h (place q c n a d l u) =
+      let at : q + (j - q) ≡ j = omega arith in
+      ap (v .mark p) (sym at) ∙ subst (λ (x : Effect). Safe m v k x) d f .unused (j - q) (omega arith)
+  handed-unused g e f p j i h (page r c a d) = g .marks p (h .page) j (marked-place _ i p j (h .inside)) (subst (λ (x : Effect). Safe m v k x) d f .unowned)
 
 -- ---- marks
-
-upd2-same : (f : ℕ → ℕ → ℕ) (k i x : ℕ) → upd2 f k i x k i ≡ x
-upd2-same f k i x = ap (λ (g : ℕ → ℕ). g i) (upd-same f k (upd (f k) i x)) ∙ upd-same (f k) i x
 
 -- a return's: the page is closed, or all stays
 closed-mark : {A : Type 0} (b : Bool) (x o : ℕ) → x ≢ 0 → (cond b 0 x ≢ 0) ⊎ (A ⊎ (cond b 0 o ≡ 0))
@@ -100,8 +98,8 @@ marks-stay : (m : Module) (v : View) (k : ℕ) (e : Effect) (p j : ℕ) → v .m
 marks-stay m v k (assign a x) p j h = inl h
 marks-stay m v k (fetch b a x w) p j h = inl h
 marks-stay m v k (save b x w y) p j h = inl h
-marks-stay m v k (takePlace q o n a) p j h = inl (upd2-cases (λ (x : ℕ). x ≢ 0) (v .mark) q o 1 p j (λ d c e. omega arith) h)
-marks-stay m v k (grantPage q r a) p j h = inl (upd2-cases (λ (x : ℕ). x ≢ 0) (v .mark) q 0 1 p j (λ d c e. omega arith) h)
+marks-stay m v k (takePlaces q o c n a) p j h = inl (setMarks-cases (λ (x : ℕ). x ≢ 0) (v .mark) q o c p j (λ d l u e. omega arith) h)
+marks-stay m v k (grantPage q r c a) p j h = inl (setMarks-cases (λ (x : ℕ). x ≢ 0) (v .mark) q 0 c p j (λ d l u e. omega arith) h)
 marks-stay m v k (freePlace q o) p j h = go (ℕ-discrete p q) (ℕ-discrete j o)
   where
     kept : (p ≡ q → j ≡ o → ⊥) → upd2 (v .mark) q o 0 p j ≢ 0
@@ -125,28 +123,30 @@ module _ (m : Module) (t : Step) (frame : view (t .state) .frames ≡ suc (t .to
     (good : Good m (view (t .state)) (suc (t .top))) where
   -- what is handed out is safe, and so is the view after it
   module _ (after : view (stateAfter m t) ≡ apply m (t .top) (t .effect) (view (t .state))) where
-    place-taken : (p j n a : ℕ) → t .effect ≡ takePlace p j n a → Taken m t p j a
-    place-taken p j n a d =
+    place-taken : (p j c n a : ℕ) → t .effect ≡ takePlaces p j c n a → Taken m t p j c a
+    place-taken p j c n a d =
         let v : View = view (t .state) in
-        let f : SafeTake m (view (t .state)) (t .top) p j n a = subst (λ (x : Effect). Safe m (view (t .state)) (t .top) x) d safe in
-        let is : view (stateAfter m t) ≡ apply m (t .top) (takePlace p j n a) (view (t .state)) = after ∙ ap (λ (x : Effect). apply m (t .top) x (view (t .state))) d in
+        let f : SafeTake m (view (t .state)) (t .top) p j c n a = subst (λ (x : Effect). Safe m (view (t .state)) (t .top) x) d safe in
+        let is : view (stateAfter m t) ≡ apply m (t .top) (takePlaces p j c n a) (view (t .state)) = after ∙ ap (λ (x : Effect). apply m (t .top) x (view (t .state))) d in
         record {
+          count = f .count;
           free = f .unused;
-          used = λ z. let y : _≡_ {A = ℕ} 1 0 = sym (upd2-same (v .mark) p j 1) ∙ ap (λ (u : View). u .mark p j) (sym is) ∙ z in omega arith;
+          used = λ i l z. let y : _≡_ {A = ℕ} 1 0 = sym (setMarks-in (v .mark) p j c (j + i) (omega arith) (omega arith)) ∙ ap (λ (u : View). u .mark p (j + i)) (sym is) ∙ z in omega arith;
           address =
               ap (λ (u : View). u .reg (t .top) a) is
               ∙ upd2-same (v .reg) (t .top) a (pageBytes * p + n * j)
-              ∙ ap (λ (x : ℕ). pageBytes * p + x * j) (sym (taken-size m v (t .top) frame p j n a f));
+              ∙ ap (λ (x : ℕ). pageBytes * p + x * j) (sym (taken-size m v (t .top) frame p j c n a f));
         }
 
-    page-taken : (p r a : ℕ) → t .effect ≡ grantPage p r a → Taken m t p 0 a
-    page-taken p r a d =
+    page-taken : (p r c a : ℕ) → t .effect ≡ grantPage p r c a → Taken m t p 0 c a
+    page-taken p r c a d =
         let v : View = view (t .state) in
-        let f : SafeGrant m (view (t .state)) (t .top) p r a = subst (λ (x : Effect). Safe m (view (t .state)) (t .top) x) d safe in
-        let is : view (stateAfter m t) ≡ apply m (t .top) (grantPage p r a) (view (t .state)) = after ∙ ap (λ (x : Effect). apply m (t .top) x (view (t .state))) d in
+        let f : SafeGrant m (view (t .state)) (t .top) p r c a = subst (λ (x : Effect). Safe m (view (t .state)) (t .top) x) d safe in
+        let is : view (stateAfter m t) ≡ apply m (t .top) (grantPage p r c a) (view (t .state)) = after ∙ ap (λ (x : Effect). apply m (t .top) x (view (t .state))) d in
         record {
-          free = good .marks p (f .inside) 0 (omega arith) (f .unowned);
-          used = λ z. let y : _≡_ {A = ℕ} 1 0 = sym (upd2-same (v .mark) p 0 1) ∙ ap (λ (u : View). u .mark p 0) (sym is) ∙ z in omega arith;
+          count = f .count;
+          free = λ i l. good .marks p (f .inside) (0 + i) (omega (arith, f .places)) (f .unowned);
+          used = λ i l z. let y : _≡_ {A = ℕ} 1 0 = sym (setMarks-in (v .mark) p 0 c (0 + i) (omega arith) (omega arith)) ∙ ap (λ (u : View). u .mark p (0 + i)) (sym is) ∙ z in omega arith;
           address = ap (λ (u : View). u .reg (t .top) a) is ∙ upd2-same (v .reg) (t .top) a (pageBytes * p) ∙ omega arith;
         }
 

@@ -1,6 +1,6 @@
 -- Each change of a state keeps it good: one lemma for each change of which the effects are made. Assumes nothing.
 use mathlib.Core.Path.{_≡_, refl, sym, ap, _∙_, subst}
-use mathlib.Core.Logic.{_⊎_, inl, inr, _≢_}
+use mathlib.Core.Logic.{_⊎_, inl, inr, ⊎-elim, _≢_}
 use mathlib.Core.List.{List}
 use Prim.Native.Nat.{ℕ, suc, _+_, _*_, _<_, _≤_}
 use native.Mathlib.Nat.{not-suc-le-zero, suc-inj, mul-le-mul-left}
@@ -13,24 +13,17 @@ use Rattle.rules.specs.Types.{variable, live, Variable, region, Tree, width, ar
 use Rattle.rules.specs.Module.{Module, regions, argument, call}
 use Rattle.rules.specs.Flat.{size}
 use Rattle.rules.specs.State.{InRange, View, memoryNumber}
-use Rattle.rules.specs.Heap.{close, Local, Live, decLocal, liveList, typeOf, HeapTyping, heapTyping, Value}
+use Rattle.rules.specs.Heap.{close, Local, Live, decLocal, liveList, typeOf, HeapTyping, heapTyping, InUntyped, Value}
 use Rattle.rules.specs.Step.{closes}
 use Rattle.rules.specs.StateTest.{Chained, FramesOk}
 use Rattle.soundness.specs.Fresh.{In}
 use Rattle.layout.specs.Types.{close-agree, close-sub, sub-prim, Outer, outer-close, outer-all}
 use Rattle.layout.specs.Flat.{flat-inside, flat-has-prim, SamePlace, Apart}
-use Rattle.layout.specs.Heap.{Slot, Kept, value-keep, value-zero, value-bound, slots-apart, slot-inside}
-use Rattle.state.specs.Update.{upd, upd-same, upd-other, upd-cases, upd2, stored, cleared, memoryNumber-stored, memoryNumber-stored-apart, memoryNumber-cleared, memoryNumber-cleared-apart}
-use Rattle.state.specs.Apply.{wrote, moved, saved, marked, emptied, granted, pushed, closed, closedOwner, closedMark}
+use Rattle.layout.specs.Heap.{Slot, Kept, value-keep, value-zero, value-bound, slots-apart, slot-inside, untyped-apart}
+use Rattle.state.specs.Update.{upd, upd-same, upd-other, upd-cases, upd2-cases, setMarks-cases, stored, cleared, memoryNumber-stored, memoryNumber-stored-apart, memoryNumber-cleared, memoryNumber-cleared-apart}
+use Rattle.state.specs.Apply.{wrote, moved, saved, marked, occupied, emptied, granted, pushed, closed, closedOwner, closedMark}
 use Rattle.soundness.specs.Facts.{ModuleOk}
 use Rattle.soundness.specs.Good.{Good, typeOf-agree, typeOf-miss, CallRule, map-live, fresh-map, outer-page, live-in, live-more}
-
--- a function of two numbers changed at one place
-pub upd2-cases : (P : ℕ → Type 0) (f : ℕ → ℕ → ℕ) (k i x j l : ℕ) → (j ≡ k → l ≡ i → P x) → P (f j l) → P (upd2 f k i x j l)
-upd2-cases P f k i x j l same other =
-    upd-cases (λ (g : ℕ → ℕ). P (g l)) f k (upd (f k) i x) j
-    (λ e. upd-cases P (f k) i x l (λ d. same e d) (λ d. subst (λ (y : ℕ). P (f y l)) e other))
-    (λ e. other)
 
 -- ---- frames that agree below n
 
@@ -155,22 +148,48 @@ good-saved m v n x y q g s h = record {
     go z t l (inl e) = rw (← (e .place), ← (e .tree), memoryNumber-stored (v .memory) x (width q) y (value-bound m (heapTyping m v n) q y h)) h
     go z t l (inr e) = rw (memoryNumber-stored-apart (v .memory) x (width q) y z (width t) (e .gap)) (g .slots z t l)
 
--- ---- 27 and 28: marks, an object that is handed out, and a new page
+-- ---- 38: a byte of an untyped page
 
-pub good-marked : (m : Module) (v : View) (n p j b : ℕ) → Good m v n → (v .owner p ≡ 0 → b ≡ 0) → Good m (marked p j b v) n
-good-marked m v n p j b g h = record {
+pub good-stored : (m : Module) (v : View) (n a o y c r : ℕ) → Good m v n → InUntyped (heapTyping m v n) c r a → o < c → Good m (saved (a + o) 1 y v) n
+good-stored m v n a o y c r g u l = record {
   frames = g .frames;
   inRange = g .inRange;
   owners = g .owners;
-  marks = λ q l i o e. upd2-cases (λ (x : ℕ). x ≡ 0) (v .mark) p j b q i (λ d c. h (rw d at e)) (g .marks q l i o e);
+  marks = g .marks;
+  registers = g .registers;
+  slots = λ x q s.
+      rw (memoryNumber-stored-apart (v .memory) (a + o) 1 y x (width q) (⊎-elim (λ b. inl (omega arith)) (λ b. inr b) (untyped-apart m (heapTyping m v n) c r a o x q u l s))) (g .slots x q s);
+}
+
+-- ---- 28: a mark taken away
+
+pub good-freed : (m : Module) (v : View) (n p j : ℕ) → Good m v n → Good m (marked p j 0 v) n
+good-freed m v n p j g = record {
+  frames = g .frames;
+  inRange = g .inRange;
+  owners = g .owners;
+  marks = λ q l i o e. upd2-cases (λ (x : ℕ). x ≡ 0) (v .mark) p j 0 q i (λ d c. refl) (g .marks q l i o e);
   registers = g .registers;
   slots = g .slots;
 }
 
--- place j of page p becomes zero: a slot lies in it, where zero is a value, or apart
-pub good-emptied : (m : Module) (v : View) (n p j s r : ℕ) → Good m v n → v .owner p ≡ suc r → s ≡ size m (typeOf m (v .fn) (v .map) n r) → s * suc j ≤ pageBytes
-    → Good m (emptied (pageBytes * p + s * j) s v) n
-good-emptied m v n p j s r g own is whole = record {
+-- ---- 27, 36: places that are handed out, and a new page
+
+-- c places of an owned page are used
+pub good-occupied : (m : Module) (v : View) (n p j c : ℕ) → Good m v n → v .owner p ≢ 0 → Good m (occupied p j c v) n
+good-occupied m v n p j c g h = record {
+  frames = g .frames;
+  inRange = g .inRange;
+  owners = g .owners;
+  marks = λ q l i o e. setMarks-cases (λ (x : ℕ). x ≡ 0) (v .mark) p j c q i (λ d a b. absurd (h (rw d at e))) (g .marks q l i o e);
+  registers = g .registers;
+  slots = g .slots;
+}
+
+-- c places of page p from place j on become zero: a slot lies in one of them, where zero is a value, or apart
+pub good-emptied : (m : Module) (v : View) (n p j c s r : ℕ) → Good m v n → v .owner p ≡ suc r → s ≡ size m (typeOf m (v .fn) (v .map) n r) → s * j + s * c ≤ pageBytes
+    → Good m (emptied (pageBytes * p + s * j) (s * c) v) n
+good-emptied m v n p j c s r g own is whole = record {
   frames = g .frames;
   inRange = g .inRange;
   owners = g .owners;
@@ -180,10 +199,10 @@ good-emptied m v n p j s r g own is whole = record {
 }
   where
     KeptValue : (x : ℕ) (q : Tree live) → Type 0
-    KeptValue x q = Value m (heapTyping m v n) q (memoryNumber (cleared (v .memory) (pageBytes * p + s * j) s) x (width q))
+    KeptValue x q = Value m (heapTyping m v n) q (memoryNumber (cleared (v .memory) (pageBytes * p + s * j) (s * c)) x (width q))
 
-    apart : (x : ℕ) (q : Tree live) → Slot m (heapTyping m v n) x q → (pageBytes * p + s * j + s ≤ x) ⊎ (x + width q ≤ pageBytes * p + s * j) → KeptValue x q
-    apart x q l h = rw (memoryNumber-cleared-apart (v .memory) (pageBytes * p + s * j) s x (width q) h) (g .slots x q l)
+    apart : (x : ℕ) (q : Tree live) → Slot m (heapTyping m v n) x q → (pageBytes * p + s * j + s * c ≤ x) ⊎ (x + width q ≤ pageBytes * p + s * j) → KeptValue x q
+    apart x q l h = rw (memoryNumber-cleared-apart (v .memory) (pageBytes * p + s * j) (s * c) x (width q) h) (g .slots x q l)
 
     page : (x : ℕ) (q : Tree live) (l : Slot m (heapTyping m v n) x q) → Dec (l .page ≡ p) → KeptValue x q
     page x q l (no d) = elsewhere (decLt (l .page) p)
@@ -194,7 +213,7 @@ good-emptied m v n p j s r g own is whole = record {
         elsewhere : Dec (l .page < p) → KeptValue x q
         elsewhere (yes b) = apart x q l (inr (omega (arith, l .address, l .fits, end)))
         elsewhere (no b) = apart x q l (inl (omega (arith, l .address, l .fits, end, whole)))
-    page x q l (yes d) = place (decLt (l .place) j) (decLt j (l .place))
+    page x q l (yes d) = place (decLt (l .place) j) (decLt (l .place) (j + c))
       where
         same : size m (typeOf m (v .fn) (v .map) n (l .region)) ≡ s
         same =
@@ -207,13 +226,12 @@ good-emptied m v n p j s r g own is whole = record {
         at : x ≡ pageBytes * p + (s * l .place + l .distance)
         at = l .address ∙ (λ i. pageBytes * d i + (same i * l .place + l .distance))
 
-        place : Dec (l .place < j) → Dec (j < l .place) → KeptValue x q
+        place : Dec (l .place < j) → Dec (l .place < j + c) → KeptValue x q
         place (yes b) _ = apart x q l (inr (omega (arith, at, end, mul-le-mul-left s b)))
-        place (no b) (yes o) = apart x q l (inl (omega (arith, at, mul-le-mul-left s o)))
-        place (no b) (no o) =
-            let here : l .place ≡ j = omega arith in
-            let there : s * l .place ≡ s * j = ap (λ (i : ℕ). s * i) here in
-            rw (memoryNumber-cleared (v .memory) (pageBytes * p + s * j) s x (width q) (omega (arith, at, there)) (omega (arith, at, end, there)))
+        place (no b) (no o) = let past : j + c ≤ l .place = omega arith in apart x q l (inl (omega (arith, at, mul-le-mul-left s past)))
+        place (no b) (yes o) =
+            let from : j ≤ l .place = omega arith in
+            rw (memoryNumber-cleared (v .memory) (pageBytes * p + s * j) (s * c) x (width q) (omega (arith, at, mul-le-mul-left s from)) (omega (arith, at, end, mul-le-mul-left s o)))
             (value-zero m (heapTyping m v n) q (flat-has-prim m (typeOf m (v .fn) (v .map) n (l .region)) (l .has)))
 
 pub good-granted : (m : Module) (v : View) (n p r : ℕ) → Good m v n → InRange (v .range) p → v .owner p ≡ 0 → Live m (v .fn) (v .map) n (suc r) → Good m (granted p r v) n

@@ -11,7 +11,7 @@ use borrow.Author.Tests.{eqb-true}
 use Rattle.words.specs.Bytes.{Bytes, AllBytes}
 use Rattle.rules.specs.Module.{Module}
 use Rattle.rules.specs.State.{View, view}
-use Rattle.rules.specs.Step.{Effect, assign, fetch, save, takePlace, grantPage, freePlace, goTo, emit, push, pop, finish, stop, stuck, effectAt, effectOf, handedBackBy}
+use Rattle.rules.specs.Step.{Effect, assign, fetch, save, takePlaces, grantPage, freePlace, goTo, emit, push, pop, finish, stop, stuck, effectAt, effectOf, handedBackBy}
 use Rattle.rules.specs.Footprint.{footprint}
 use Rattle.rules.specs.Run.{Step, topOf, stepOf, stateAfter, outputAfter, Trace, noSteps, runOf, isStuck, stuckSteps}
 use Rattle.rules.specs.StateTest.{StatusOk, running, stopped, ended, SpareOk}
@@ -19,6 +19,7 @@ use Rattle.rules.specs.SafeStep.{SafeStep, AllSafe, AllRanged}
 use Rattle.rules.specs.Calls.{owned, granted, handedBack}
 use Rattle.rules.specs.declared.PageRange.{PageRange}
 use Rattle.state.specs.Apply.{apply}
+use Rattle.state.specs.Reads.{memory-lt}
 use Rattle.state.specs.Effects.{Bounded, view-apply}
 use Rattle.state.specs.Whole.{Whole, whole-apply}
 use Rattle.state.specs.Independence.{decides-law, reads-law, keeps-law, clears-law}
@@ -44,8 +45,8 @@ stuck-none : (m : Module) (v : View) (k : ℕ) (e : Effect) → Safe m v k e →
 stuck-none m v k (assign a x) f = refl
 stuck-none m v k (fetch b a x w) f = refl
 stuck-none m v k (save b x w y) f = refl
-stuck-none m v k (takePlace p j n a) f = refl
-stuck-none m v k (grantPage p r a) f = refl
+stuck-none m v k (takePlaces p j c n a) f = refl
+stuck-none m v k (grantPage p r c a) f = refl
 stuck-none m v k (freePlace p j) f = refl
 stuck-none m v k (goTo d) f = refl
 stuck-none m v k (emit x) f = refl
@@ -60,8 +61,8 @@ range-apply : (m : Module) (k : ℕ) (e : Effect) (v : View) → apply m k e v .
 range-apply m k (assign a x) v = refl
 range-apply m k (fetch b a x w) v = refl
 range-apply m k (save b x w y) v = refl
-range-apply m k (takePlace p j n a) v = refl
-range-apply m k (grantPage p r a) v = refl
+range-apply m k (takePlaces p j c n a) v = refl
+range-apply m k (grantPage p r c a) v = refl
 range-apply m k (freePlace p j) v = refl
 range-apply m k (goTo d) v = refl
 range-apply m k (emit x) v = refl
@@ -138,9 +139,10 @@ module _ (m : Module) (ok : ModuleOk m) where
   stepped form s o b t w z =
       let r = ready form s b t z in
       let f : Safe m (view s) (topFrame s) (effectOf m form (view s)) = r .safe in
+      let small : (i : ℕ) → view s .memory i < 256 = memory-lt s (w .bytes) in
       let after = view-apply m s (w .size) (w .bytes) (topFrame s) (effectOf m form (view s)) (r .bounds) in
       let test : Test m (view (stateAfter m (stepOf m form s o))) =
-      rw after (preserve m ok (view s) (topFrame s) (effectOf m form (view s)) (r .frame) z (r .result) (t .output) (r .good) (r .spare) f) in
+      rw after (preserve m ok (view s) small (topFrame s) (effectOf m form (view s)) (r .frame) z (r .result) (t .output) (r .good) (r .spare) f) in
       let keeps = keeps-law m s (w .size) (w .bytes) (topFrame s) (effectOf m form (view s)) (r .bounds) in
       let clears = clears-law m s (w .size) (w .bytes) (topFrame s) (effectOf m form (view s)) (r .bounds) in
       let held : Whole (stateAfter m (stepOf m form s o)) = whole-apply m s (topFrame s) (effectOf m form (view s)) (r .bounds) w in
@@ -154,7 +156,7 @@ module _ (m : Module) (ok : ModuleOk m) where
           stores = λ b y w u d. subst (λ (u : Effect). Safe m (view s) (topFrame s) u) d f .touches;
           fetches = λ b a y w d.
               let g = subst (λ (u : Effect). Safe m (view s) (topFrame s) u) d f in
-              record { register = g .register; value = fetched m (view s) (topFrame s) b a y w (r .good) g };
+              record { register = g .register; value = fetched m (view s) (topFrame s) b a y w small (r .good) g };
           decides = λ y h. decides-law m form y s h;
           reads = λ y h q. reads-law m (topFrame s) y s h (effectOf m form (view s)) q;
           keeps = keeps;

@@ -1,7 +1,7 @@
 -- The spare part of a state stays zero: frames not in use, registers and map entries that a function does not have, marks beyond the
 -- last place of a page. Assumes nothing.
 use mathlib.Core.Path.{_≡_, refl, sym, ap, _∙_}
-use Prim.Native.Nat.{ℕ, zero, suc, _*_, _<_, _≤_}
+use Prim.Native.Nat.{ℕ, zero, suc, _+_, _*_, _<_, _≤_}
 use native.Mathlib.Nat.{suc-inj}
 use native.Mathlib.Decide.{ℕ-discrete}
 use native.Mathlib.Omega.{arith}
@@ -13,11 +13,11 @@ use Rattle.rules.specs.State.{View}
 use Rattle.rules.specs.Heap.{Live, typeOf}
 use Rattle.rules.specs.Step.{closes}
 use Rattle.rules.specs.StateTest.{MarksEnd, SpareOk}
-use Rattle.state.specs.Update.{upd, upd-same, upd-other, upd-cases}
-use Rattle.state.specs.Apply.{wrote, moved, saved, marked, emptied, granted, counted, pushed, closed, closedOwner, became}
+use Rattle.state.specs.Update.{upd, upd-same, upd-other, upd-cases, upd2-cases, setMarks-cases}
+use Rattle.state.specs.Apply.{wrote, moved, saved, marked, occupied, emptied, granted, counted, pushed, closed, closedOwner, became}
 use Rattle.soundness.specs.Facts.{ModuleOk}
 use Rattle.soundness.specs.Good.{Good}
-use Rattle.soundness.specs.Preserve.{upd2-cases, SafePush, open-kept, left-owner, live-kept}
+use Rattle.soundness.specs.Preserve.{SafePush, open-kept, left-owner, live-kept}
 
 -- the marks of a page by its owner
 module _ (m : Module) (v : View) (n p : ℕ) where
@@ -64,18 +64,31 @@ spare-counted m v n c = record { functions = c .functions; instructions = c .ins
 pub spare-emptied : (m : Module) (v : View) (n x s : ℕ) → SpareOk m v n → SpareOk m (emptied x s v) n
 spare-emptied m v n x s c = record { functions = c .functions; instructions = c .instructions; frameRegisters = c .frameRegisters; frameMaps = c .frameMaps; registers = c .registers; maps = c .maps; marks = λ p l. ends-of m (emptied x s v) n p (v .owner p) (of-ends m v n p (v .owner p) (c .marks p l)) }
 
--- the mark of a place that the page has, or a mark taken away
-pub spare-marked : (m : Module) (v : View) (n p j b : ℕ) → SpareOk m v n
-    → ((r : ℕ) → v .owner p ≡ suc r → pageBytes < size m (typeOf m (v .fn) (v .map) n r) * suc j → b ≡ 0) → SpareOk m (marked p j b v) n
-spare-marked m v n p j b c f = record {
+-- a mark taken away
+pub spare-freed : (m : Module) (v : View) (n p j : ℕ) → SpareOk m v n → SpareOk m (marked p j 0 v) n
+spare-freed m v n p j c = record {
   functions = c .functions;
   instructions = c .instructions;
   frameRegisters = c .frameRegisters;
   frameMaps = c .frameMaps;
   registers = c .registers;
   maps = c .maps;
-  marks = λ q l. ends-of m (marked p j b v) n q (v .owner q) (λ r o i h w.
-      upd2-cases (λ (y : ℕ). y ≡ 0) (v .mark) p j b q i (λ e d. f r (rw e at o) (rw d at w)) (of-ends m v n q (v .owner q) (c .marks q l) r o i h w));
+  marks = λ q l. ends-of m (marked p j 0 v) n q (v .owner q) (λ r o i h w.
+      upd2-cases (λ (y : ℕ). y ≡ 0) (v .mark) p j 0 q i (λ e d. refl) (of-ends m v n q (v .owner q) (c .marks q l) r o i h w));
+}
+
+-- the marks of c places that the page has
+pub spare-occupied : (m : Module) (v : View) (n p j c : ℕ) → SpareOk m v n
+    → ((r : ℕ) → v .owner p ≡ suc r → (i : ℕ) → i < j + c → size m (typeOf m (v .fn) (v .map) n r) * suc i ≤ pageBytes) → SpareOk m (occupied p j c v) n
+spare-occupied m v n p j c s f = record {
+  functions = s .functions;
+  instructions = s .instructions;
+  frameRegisters = s .frameRegisters;
+  frameMaps = s .frameMaps;
+  registers = s .registers;
+  maps = s .maps;
+  marks = λ q l. ends-of m (occupied p j c v) n q (v .owner q) (λ r o i h w.
+      setMarks-cases (λ (y : ℕ). y ≡ 0) (v .mark) p j c q i (λ e a b. absurd (let x = f r (rw e at o) i b in omega (arith, x, w))) (of-ends m v n q (v .owner q) (s .marks q l) r o i h w));
 }
 
 pub spare-granted : (m : Module) (v : View) (n p r : ℕ) → Good m v n → SpareOk m v n → v .owner p ≡ 0 → SpareOk m (granted p r v) n

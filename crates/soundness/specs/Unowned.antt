@@ -18,7 +18,7 @@ use Rattle.rules.specs.Flat.{size}
 use Rattle.rules.specs.Decode.{moduleOf}
 use Rattle.rules.specs.Verdict.{verdictOf, IsAccepted}
 use Rattle.rules.specs.State.{View, view, memoryPlace}
-use Rattle.rules.specs.Step.{Effect, assign, fetch, save, takePlace, grantPage, freePlace, goTo, emit, push, pop, finish, stop, stuck, effectOf, closes}
+use Rattle.rules.specs.Step.{Effect, assign, fetch, save, takePlaces, grantPage, freePlace, goTo, emit, push, pop, finish, stop, stuck, effectOf, closes}
 use Rattle.rules.specs.Writes.{applyState}
 use Rattle.rules.specs.Run.{Step, topOf, stepOf, stateAfter, outputAfter, Trace, noSteps, runOf}
 use Rattle.rules.specs.StateTest.{Passes}
@@ -76,8 +76,8 @@ memory-same : (m : Module) (k : ℕ) (e : Effect) (v : View) (M : ℕ → ℕ) (
 memory-same m k (assign a x) v M i h n = h n
 memory-same m k (fetch b a x w) v M i h n = h n
 memory-same m k (save b x w y) v M i h n = stored-same M (v .memory) x w y i (h n)
-memory-same m k (takePlace p j s a) v M i h n = cleared-same M (v .memory) (pageBytes * p + s * j) s i (λ _. h n)
-memory-same m k (grantPage p r a) v M i h n = cleared-same M (v .memory) (pageBytes * p) pageBytes i (λ d. h (λ z. n (upd-other (v .owner) p (suc r) (i / pageBytes) (other d) ∙ z)))
+memory-same m k (takePlaces p j c s a) v M i h n = cleared-same M (v .memory) (pageBytes * p + s * j) (s * c) i (λ _. h n)
+memory-same m k (grantPage p r c a) v M i h n = cleared-same M (v .memory) (pageBytes * p) pageBytes i (λ d. h (λ z. n (upd-other (v .owner) p (suc r) (i / pageBytes) (other d) ∙ z)))
   where
     other : (i < pageBytes * p) ⊎ (pageBytes * p + pageBytes ≤ i) → i / pageBytes ≢ p
     other (inl l) e = omega arith
@@ -96,8 +96,8 @@ bounded-same : (v : View) (M : ℕ → ℕ) (k : ℕ) (e : Effect) → Bounded v
 bounded-same v M k (assign a x) b = (record { frame = b .0 .frame; next = b .0 .next }, b .1)
 bounded-same v M k (fetch r a x w) b = (record { frame = b .0 .frame; next = b .0 .next }, b .1)
 bounded-same v M k (save r x w y) b = (record { frame = b .0 .frame; next = b .0 .next }, b .1)
-bounded-same v M k (takePlace p j n a) b = (record { frame = b .0 .frame; next = b .0 .next }, b .1)
-bounded-same v M k (grantPage p r a) b = (record { frame = b .0 .frame; next = b .0 .next }, b .1)
+bounded-same v M k (takePlaces p j c n a) b = (record { frame = b .0 .frame; next = b .0 .next }, b .1)
+bounded-same v M k (grantPage p r c a) b = (record { frame = b .0 .frame; next = b .0 .next }, b .1)
 bounded-same v M k (freePlace p j) b = (record { frame = b .0 .frame; next = b .0 .next }, b .1)
 bounded-same v M k (goTo d) b = b
 bounded-same v M k (emit x) b = (record { frame = b .0 .frame; next = b .0 .next }, b .1)

@@ -1,19 +1,21 @@
 -- Which bytes each accessor reads: where those agree, the accessor gives the same. The areas of the layout: what differs within one
 -- area changes only that area's part of the view. Assumes nothing.
-use mathlib.Core.Path.{_≡_, refl, ap, fun-ext}
+use mathlib.Core.Path.{_≡_, refl, sym, ap, _∙_, fun-ext}
 use mathlib.Core.Bool.{Bool, true, false, cond, _&&_}
 use mathlib.Core.Logic.{_⊎_, inl, inr}
-use Prim.Native.Nat.{ℕ, suc, _+_, _%_, _<_, _≤_}
+use mathlib.Core.List.{List, [], _∷_}
+use Prim.Native.Nat.{ℕ, zero, suc, _+_, _%_, _<_, _≤_}
+use native.Mathlib.Decide.{decLt}
 use native.Mathlib.Omega.{arith}
 use lib.Dec.{ltb}
 use lib.ListN.{length}
 use borrow.Author.Tests.{ltb-true}
-use Rattle.words.specs.Bytes.{Bytes, byteAt, number, splice}
-use Rattle.words.specs.ByteLaws.{getD-splice-out, number-agree}
-use Rattle.words.specs.Bits.{bit}
+use Rattle.words.specs.Bytes.{Bytes, byteAt, number, little, splice}
+use Rattle.words.specs.ByteLaws.{length-splice, getD-splice-in, getD-splice-out, byte-past, number-agree}
+use Rattle.words.specs.Bits.{bit, withBit}
 use Rattle.words.specs.Choose.{both}
 use Rattle.rules.specs.Limits.{pages, pageBytes, memoryBytes, mostFrames, mostRegisters, mostRegions, stateBytes, statusAt, framesAt, outputCountAt, resultAt, rangeAt, headerEnd, ownersAt, marksAt, stackAt, frameBytes, stackEnd, memoryAt}
-use Rattle.rules.specs.State.{stateRange, ownerPlace, markPlace, framePlace, registerPlace, mapPlace, functionPlace, instructionPlace, memoryPlace, frameFunction, frameInstruction, frameRegister, frameMap, pageOwner, pageMark, memoryByte, View, view}
+use Rattle.rules.specs.State.{stateRange, ownerPlace, markPlace, framePlace, registerPlace, mapPlace, functionPlace, instructionPlace, memoryPlace, frameFunction, frameInstruction, frameRegister, frameMap, pageOwner, pageMark, memoryByte, View, view, Write, write, written, putMark, putMarks}
 use Rattle.rules.specs.declared.PageRange.{PageRange}
 
 -- the bytes from lo up to hi agree
@@ -28,6 +30,28 @@ Outside t s lo hi = (i : ℕ) → (i < lo) ⊎ (hi ≤ i) → byteAt t i ≡ byt
 pub splice-outside : (s : Bytes) (i : ℕ) (l : Bytes) (lo hi : ℕ) → lo ≤ i → i + length l ≤ hi → Outside (splice s i l) s lo hi
 splice-outside s i l lo hi a b k (inl h) = getD-splice-out s i l k 0 (inl (omega arith))
 splice-outside s i l lo hi a b k (inr h) = getD-splice-out s i l k 0 (inr (omega arith))
+
+-- one write to both
+pub agree-splice : (t s : Bytes) (i : ℕ) (l : Bytes) (lo hi : ℕ) → length t ≡ length s → Agree t s lo hi → Agree (splice t i l) (splice s i l) lo hi
+agree-splice t s i l lo hi n h j a b = by (decLt j i) (decLt j (i + length l)) (decLt j (length t))
+  where
+    by : Dec (j < i) → Dec (j < i + length l) → Dec (j < length t) → byteAt (splice t i l) j ≡ byteAt (splice s i l) j
+    by (yes c) _ _ = getD-splice-out t i l j 0 (inl c) ∙ h j a b ∙ sym (getD-splice-out s i l j 0 (inl c))
+    by (no c) (no d) _ = getD-splice-out t i l j 0 (inr (omega arith)) ∙ h j a b ∙ sym (getD-splice-out s i l j 0 (inr (omega arith)))
+    by (no c) (yes d) (yes e) = getD-splice-in t i l j 0 (omega arith) d e ∙ sym (getD-splice-in s i l j 0 (omega arith) d (omega arith))
+    by (no c) (yes d) (no e) = byte-past (splice t i l) j (rw (length-splice t i l) (omega arith)) ∙ sym (byte-past (splice s i l) j (rw (length-splice s i l) (omega arith)))
+
+-- what is written for marks in a row is read off the marks
+pub marks-agree : (c : ℕ) (s t : Bytes) → length t ≡ length s → Agree t s marksAt stackAt → (p j : ℕ) → p < pages → j + c ≤ pageBytes → putMarks t p j c ≡ putMarks s p j c
+unfolding putMarks written
+marks-agree zero s t n h p j l k = refl
+marks-agree (suc c) s t n h p j l k =
+    ap (λ (b : ℕ). let v = write (markPlace p j) (little 1 (withBit b (j % 8) 1)) in v ∷ putMarks (written (v ∷ []) t) p (suc j) c) (h (markPlace p j) (omega arith) (omega arith))
+    ∙ ap (λ (ws : List Write). w ∷ ws)
+    (marks-agree c (splice s (w .place) (w .bytes)) (splice t (w .place) (w .bytes)) (length-splice t _ _ ∙ n ∙ sym (length-splice s _ _)) (agree-splice t s (w .place) (w .bytes) marksAt stackAt n h) p (suc j) l (omega arith))
+  where
+    w : Write
+    w = putMark s p j 1
 
 -- ---- accessors
 

@@ -1,13 +1,14 @@
 -- How the code's readers and writers meet the definitions: a field at a place that the code computed. Assumes nothing.
-use mathlib.Core.Path.{_≡_, sym, ap, _∙_}
+use mathlib.Core.Path.{_≡_, sym, ap, ap₂, _∙_}
 use mathlib.Core.List.{[], _∷_}
-use Prim.Native.Nat.{ℕ, suc, _%_, _<_}
+use Prim.Native.Nat.{ℕ, suc, _+_, _-_, _%_, _<_, _≤_}
+use native.Mathlib.Omega.{arith}
 use lib.ListN.{length, replicate, length-replicate, set}
 use Rattle.words.specs.Bytes.{Bytes, byteAt, little, splice, put, fill}
 use Rattle.words.specs.ByteLaws.{splice-whole, splice-one, splice-cons}
 use Rattle.words.specs.Bits.{bit, withBit}
 use Rattle.rules.specs.Limits.{pages, pageBytes, rangeAt}
-use Rattle.rules.specs.State.{markPlace, pageMark, putMark, putRange}
+use Rattle.rules.specs.State.{markPlace, pageMark, written, putMark, putMarks, putRange}
 use Rattle.rules.specs.declared.PageRange.{PageRange}
 use Rattle.state.specs.Puts.{after}
 use Rattle.state.specs.Reads.{mark-is}
@@ -36,3 +37,22 @@ mark-written s i p j b x e d =
 -- the range, byte by byte
 pub range-written : (R : PageRange) (s : Bytes) → set (set s (suc rangeAt) (R .above)) rangeAt (R .below) ≡ after (putRange R) s
 range-written R s = ap (λ (l : Bytes). set l rangeAt (R .below)) (sym (splice-one s (suc rangeAt) (R .above))) ∙ sym (splice-cons s rangeAt (R .below) (R .above ∷ []))
+
+-- ---- a run of marks: what is left to write of it
+
+abbrev pub marksFrom : Bytes → (p j c i : ℕ) → Bytes
+marksFrom s p j c i = written (putMarks s p (j + i) (c - i)) s
+
+pub marks-first : (s : Bytes) (p j c : ℕ) → marksFrom s p j c 0 ≡ written (putMarks s p j c) s
+marks-first s p j c = ap₂ (λ (a b : ℕ). written (putMarks s p a b) s) (omega arith) (omega arith)
+
+pub marks-next : (s t : Bytes) (p j c i : ℕ) → i < c → t ≡ after (putMark s p (j + i) 1) s → marksFrom t p j c (i + 1) ≡ marksFrom s p j c i
+unfolding written putMarks
+marks-next s t p j c i l e =
+    let a : j + (i + 1) ≡ suc (j + i) = omega arith in
+    let b : suc (c - (i + 1)) ≡ c - i = omega arith in
+    ap₂ (λ (x : Bytes) (y : ℕ). written (putMarks x p y (c - (i + 1))) x) e a ∙ ap (λ (x : ℕ). written (putMarks s p (j + i) x) s) b
+
+pub marks-last : (s : Bytes) (p j c i : ℕ) → c ≤ i → marksFrom s p j c i ≡ s
+unfolding written putMarks
+marks-last s p j c i l = let e : c - i ≡ 0 = omega arith in ap (λ (x : ℕ). written (putMarks s p (j + i) x) s) e

@@ -13,9 +13,9 @@ use Rattle.words.specs.ByteLaws.{length-splice, length-little, getD-splice-in, 
 use Rattle.words.specs.Bits.{withBit}
 use Rattle.rules.specs.Limits.{mostFrames, pages, pageBytes, memoryBytes, stateBytes, memoryAt}
 use Rattle.rules.specs.Decision.{decTyped}
-use Rattle.rules.specs.Module.{Instruction, constant, copy, operate, zeroExtend, signExtend, address, check, field, index, load, store, new, free, input, output, jump, branch, call, return, Function, Module}
-use Rattle.rules.specs.State.{markPlace, memoryPlace, memoryByte, memoryNumber, View, view, Write, written, putStatus, putFrames, putOutputCount, putResult, putOwner, putMark, clearMemory, clearPage, putMemory, putInstruction, putFrame, clearMarks, clearFrame}
-use Rattle.rules.specs.Step.{Effect, assign, fetch, save, takePlace, grantPage, freePlace, goTo, emit, push, pop, finish, stop, stuck, need, decHeld, calleeMap, calleeRegisters, returned, exec, effectAt, effectOf, closes}
+use Rattle.rules.specs.Module.{Instruction, constant, copy, operate, zeroExtend, signExtend, address, check, field, index, load, store, new, free, input, output, jump, branch, call, return, newBytes, loadByte, storeByte, checkBytes, Function, Module}
+use Rattle.rules.specs.State.{markPlace, memoryPlace, memoryByte, memoryNumber, View, view, Write, written, putStatus, putFrames, putOutputCount, putResult, putOwner, putMark, putMarks, clearMemory, clearPage, putMemory, putInstruction, putFrame, clearMarks, clearFrame}
+use Rattle.rules.specs.Step.{Effect, assign, fetch, save, takePlaces, grantPage, freePlace, goTo, emit, push, pop, finish, stop, stuck, need, decHeld, calleeMap, calleeRegisters, returned, exec, effectAt, effectOf, closes}
 use Rattle.rules.specs.Writes.{closing, leaving, setAndOn, stateWrites, applyState}
 use Rattle.rules.specs.Footprint.{footprint, Within}
 use Rattle.rules.specs.SafeStep.{SameButPages, Reads, Changes}
@@ -24,6 +24,7 @@ use Rattle.state.specs.Touched.{clear-of, byTake, byGrant}
 use Rattle.state.specs.Apply.{apply}
 use Rattle.state.specs.Areas.{range-agree, view-eq, memory-agree, stack-same, owners-same, marks-same, status-agree, frames-agree, outputCount-agree, result-agree, withMemory}
 use Rattle.state.specs.Puts.{after}
+use Rattle.state.specs.Closing.{written-append}
 use Rattle.state.specs.Effects.{Bounded, view-apply}
 use Rattle.state.specs.Reads.{memory-is}
 
@@ -57,6 +58,10 @@ module _ (m : Module) (form : Bytes) (M : ℕ → ℕ) (v : View) where
   exec-same k f (branch a d) = refl
   exec-same k f (call a g rs xs) = refl
   exec-same k f (return a) = ap (λ (e : Effect). need (decHeld m form v k f a) e) (returned-same k f k (v .reg k a))
+  exec-same k f (newBytes a) = refl
+  exec-same k f (loadByte a b c) = refl
+  exec-same k f (storeByte a b c) = refl
+  exec-same k f (checkBytes a b) = refl
 
   effect-same : (n : ℕ) → effectAt m form (withMemory M v) n ≡ effectAt m form v n
   unfolding effectAt
@@ -118,6 +123,17 @@ same-mark s t u v h g p j b =
     same-splice u v (markPlace p j) _ _ g (length-little 1 _ ∙ sym (length-little 1 _))
     (λ l. ap (λ (c : ℕ). little 1 (withBit c (j % 8) b)) (h .bytes (markPlace p j) l))
 
+-- a run of marks likewise
+same-marks : (c : ℕ) (s t u v : Bytes) → SameButPages s t → SameButPages u v → (p j : ℕ) → SameButPages (written (putMarks s p j c) u) (written (putMarks t p j c) v)
+unfolding written putMarks
+same-marks zero s t u v h g p j = g
+same-marks (suc c) s t u v h g p j =
+    same-marks c (after (putMark s p j 1) s) (after (putMark t p j 1) t) (after (putMark s p j 1) u) (after (putMark t p j 1) v) (same-mark s t s t h h p j 1) (same-mark s t u v h g p j 1) p (suc j)
+
+-- a list of writes behind another
+same-append : (a b c d : List Write) (s t : Bytes) → SameButPages (written a s) (written c t) → b ≡ d → SameButPages (written (a ++ b) s) (written (c ++ d) t)
+same-append a b c d s t h e = rw (written-append a b s, written-append c d t) (same-writes b d e (written a s) (written c t) h)
+
 closing-same : (m : Module) (M : ℕ → ℕ) (v : View) (k n : ℕ) → closing m (withMemory M v) k n ≡ closing m v k n
 unfolding closing
 closing-same m M v k zero = refl
@@ -145,13 +161,14 @@ module _ (m : Module) (k : ℕ) (s t : Bytes) (h : SameButPages s t) where
       same-writes _ _
       (from-view (λ v. setAndOn v k a (memoryNumber (view s .memory) x w)) (λ M v. refl) ∙ ap (setAndOn (view t) k a) (numbers-same x w f)) s t h
   reads-law (save b x w y) f = same-writes _ _ (from-view (λ v. putMemory x w y ∷ putInstruction k (suc (v .pc k)) ∷ []) (λ M v. refl)) s t h
-  reads-law (takePlace p j n a) f =
+  reads-law (takePlaces p j c n a) f =
       let x : ℕ = pageBytes * p + n * j in
-      same-writes _ _ (from-view (λ v. clearMemory x n ∷ setAndOn v k a x) (λ M v. refl)) (after (putMark s p j 1) s) (after (putMark t p j 1) t) (same-mark s t s t h h p j 1)
-  reads-law (grantPage p r a) f =
-      same-writes _ _ (from-view (λ v. setAndOn v k a (pageBytes * p)) (λ M v. refl)) _ _
-      (same-mark s t (written (clearPage p ∷ putOwner p (suc r) ∷ []) s) (written (clearPage p ∷ putOwner p (suc r) ∷ []) t) h
-      (same-written (clearPage p ∷ putOwner p (suc r) ∷ []) s t h) p 0 1)
+      same-append (putMarks s p j c) (clearMemory x (n * c) ∷ setAndOn (view s) k a x) (putMarks t p j c) (clearMemory x (n * c) ∷ setAndOn (view t) k a x) s t
+      (same-marks c s t s t h h p j) (from-view (λ v. clearMemory x (n * c) ∷ setAndOn v k a x) (λ M v. refl))
+  reads-law (grantPage p r c a) f =
+      let first : List Write = clearPage p ∷ putOwner p (suc r) ∷ [] in
+      same-append (putMarks s p 0 c) (setAndOn (view s) k a (pageBytes * p)) (putMarks t p 0 c) (setAndOn (view t) k a (pageBytes * p)) (written first s) (written first t)
+      (same-marks c s t (written first s) (written first t) h (same-written first s t h) p 0) (from-view (λ v. setAndOn v k a (pageBytes * p)) (λ M v. refl))
   reads-law (freePlace p j) f =
       same-writes _ _ (from-view (λ v. putInstruction k (suc (v .pc k)) ∷ []) (λ M v. refl)) (after (putMark s p j 0) s) (after (putMark t p j 0) t) (same-mark s t s t h h p j 0)
   reads-law (goTo d) f = same-written (putInstruction k d ∷ []) s t h
@@ -180,8 +197,8 @@ pub memory-kept : (m : Module) (k : ℕ) (e : Effect) (v : View) (i : ℕ) → �
 memory-kept m k (assign a x) v i n = refl
 memory-kept m k (fetch b a x w) v i n = refl
 memory-kept m k (save b x w y) v i n = stored-apart (v .memory) x w y i (beside x w i (λ h. n (inl h)))
-memory-kept m k (takePlace p j s a) v i n = cleared-out (v .memory) (pageBytes * p + s * j) s i (beside (pageBytes * p + s * j) s i (λ h. n (inr h)))
-memory-kept m k (grantPage p r a) v i n = cleared-out (v .memory) (pageBytes * p) pageBytes i (beside (pageBytes * p) pageBytes i (λ h. n (inr h)))
+memory-kept m k (takePlaces p j c s a) v i n = cleared-out (v .memory) (pageBytes * p + s * j) (s * c) i (beside (pageBytes * p + s * j) (s * c) i (λ h. n (inr h)))
+memory-kept m k (grantPage p r c a) v i n = cleared-out (v .memory) (pageBytes * p) pageBytes i (beside (pageBytes * p) pageBytes i (λ h. n (inr h)))
 memory-kept m k (freePlace p j) v i n = refl
 memory-kept m k (goTo d) v i n = refl
 memory-kept m k (emit x) v i n = refl
@@ -194,8 +211,8 @@ memory-kept m k stuck v i n = refl
 -- what an effect clears is zero
 pub memory-cleared : (m : Module) (k : ℕ) (e : Effect) (v : View) (i : ℕ) → Within (footprint e .clears) i → apply m k e v .memory i ≡ 0
 memory-cleared m k e v i h = elim (clear-of e i h) [
-  | byTake p j n a d w ↦ ap (λ (x : Effect). apply m k x v .memory i) d ∙ cleared-in (v .memory) (pageBytes * p + n * j) n i (w .0) (w .1)
-  | byGrant p r a d w ↦ ap (λ (x : Effect). apply m k x v .memory i) d ∙ cleared-in (v .memory) (pageBytes * p) pageBytes i (w .0) (w .1)
+  | byTake p j c n a d w ↦ ap (λ (x : Effect). apply m k x v .memory i) d ∙ cleared-in (v .memory) (pageBytes * p + n * j) (n * c) i (w .0) (w .1)
+  | byGrant p r c a d w ↦ ap (λ (x : Effect). apply m k x v .memory i) d ∙ cleared-in (v .memory) (pageBytes * p) pageBytes i (w .0) (w .1)
 ]
 
 pub memory-byte : (s : Bytes) (i : ℕ) → i < memoryBytes → view s .memory i ≡ byteAt s (memoryPlace i)

@@ -11,6 +11,7 @@ pub mod Whole
 pub mod Touched
 pub mod Independence
 pub mod Marks
+pub mod Runs
 pub mod Fields
 pub mod NewFrame
 pub mod Filling

@@ -13,7 +13,7 @@ use Rattle.words.specs.Decide.{does-true}
 use Rattle.rules.specs.Module.{Module}
 use Rattle.rules.specs.Heap.{decLocal}
 use Rattle.rules.specs.State.{View}
-use Rattle.rules.specs.Step.{Effect, assign, fetch, save, takePlace, grantPage, freePlace, goTo, emit, push, pop, finish, stop, stuck, closes, closedPages, handedBackBy}
+use Rattle.rules.specs.Step.{Effect, assign, fetch, save, takePlaces, grantPage, freePlace, goTo, emit, push, pop, finish, stop, stuck, closes, closedPages, handedBackBy}
 use Rattle.rules.specs.Footprint.{footprint}
 use Rattle.rules.specs.Calls.{ownedBelow}
 use Rattle.state.specs.Update.{upd, upd-same, upd-other}
@@ -66,8 +66,8 @@ abbrev pub GrantsUnowned : View → Effect → Type 0
 GrantsUnowned v (assign a x) = Unit {0}
 GrantsUnowned v (fetch b a x w) = Unit {0}
 GrantsUnowned v (save b x w y) = Unit {0}
-GrantsUnowned v (takePlace p j n a) = Unit {0}
-GrantsUnowned v (grantPage p r a) = (p < pages) × (v .owner p ≡ 0)
+GrantsUnowned v (takePlaces p j c n a) = Unit {0}
+GrantsUnowned v (grantPage p r c a) = (p < pages) × (v .owner p ≡ 0)
 GrantsUnowned v (freePlace p j) = Unit {0}
 GrantsUnowned v (goTo d) = Unit {0}
 GrantsUnowned v (emit x) = Unit {0}
@@ -82,8 +82,8 @@ pub pages-apply : (m : Module) (v : View) (k : ℕ) (e : Effect) → GrantsUnown
 pages-apply m v k (assign a x) h = refl
 pages-apply m v k (fetch b a x w) h = refl
 pages-apply m v k (save b x w y) h = refl
-pages-apply m v k (takePlace p j n a) h = refl
-pages-apply m v k (grantPage p r a) h = let g = owned-granted (v .owner) p (suc r) pages (h .1) (λ e. omega arith) (h .0) in omega arith
+pages-apply m v k (takePlaces p j c n a) h = refl
+pages-apply m v k (grantPage p r c a) h = let g = owned-granted (v .owner) p (suc r) pages (h .1) (λ e. omega arith) (h .0) in omega arith
 pages-apply m v k (freePlace p j) h = refl
 pages-apply m v k (goTo d) h = refl
 pages-apply m v k (emit x) h = refl

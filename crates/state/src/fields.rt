@@ -4,13 +4,11 @@ ghost use mathlib.Core.Path.{_≡_};
 ghost use Prim.Native.Nat.{_+_, _<_, _≤_};
 ghost use lib.ListN.{length};
 ghost use Rattle.words.specs.Widths.{widthOf};
-ghost use Rattle.words.specs.First.{first};
 ghost use Rattle.rules.specs.Limits.{stateBytes, pages, pageBytes, memoryBytes, mostFrames, mostRegisters, mostRegions};
-ghost use Rattle.rules.specs.State.{view, frameFunction, frameInstruction, frameRegister, frameMap, pageOwner, pageMark, memoryNumber, putStatus, putFrames, putOutputCount, putResult, putRange, putOwner, putMark, clearMarks, clearMemory, putMemory, putRegister, putInstruction, putFrame, clearFrame};
+ghost use Rattle.rules.specs.State.{view, frameFunction, frameInstruction, frameRegister, frameMap, pageOwner, pageMark, memoryNumber, written, putStatus, putFrames, putOutputCount, putResult, putRange, putOwner, putMark, putMarks, clearMarks, clearMemory, putMemory, putRegister, putInstruction, putFrame, clearFrame};
 ghost use Rattle.state.specs.Apply.{nothing};
 ghost use Rattle.state.specs.Puts.{after};
 ghost use Rattle.state.specs.NewFrame.{putRegion};
-ghost use Rattle.state.specs.Marks.{used, lowestZero};
 use crate::LiveRegion;
 use crate::Machine;
 use crate::RegionVariable;
@@ -179,6 +177,18 @@ pub fn set_mark(s: &mut [u8], p: u32, j: u32)
     put_byte(s, i, b);
 }
 
+// c places of page p from place j on are used now.
+pub fn set_marks(s: &mut [u8], p: u32, j: u32, c: u32)
+    requires { ⌜ (length (now s) ≡ stateBytes) × ((p < pages) × (j + c ≤ pageBytes)) ⌝ }
+    ensures { λ _. ⌜ now (s .exit) ≡ written (putMarks (now (s .entry)) p j c) (now (s .entry)) ⌝ }
+{
+    let mut i = 0;
+    while i < c {
+        set_mark(s, p, j + i);
+        i += 1;
+    }
+}
+
 // Place j of page p is free now.
 pub fn clear_mark(s: &mut [u8], p: u32, j: u32)
     requires { ⌜ (length (now s) ≡ stateBytes) × ((p < pages) × (j < pageBytes)) ⌝ }
@@ -248,38 +258,4 @@ pub fn put_region(s: &mut [u8], k: u32, variable: RegionVariable, live: LiveRegi
     ensures { λ _. ⌜ now (s .exit) ≡ after (putRegion k (variable .0) (live .0)) (now (s .entry)) ⌝ }
 {
     put_byte(s, map_place(k, variable.0), live.0);
-}
-
-// ---- the lowest unused place of a page
-
-// The lowest bit of b that is 0, or 8.
-fn lowest_zero(b: u8) -> u32
-    ensures { λ r. ⌜ (r ≡ lowestZero b) × (r ≤ 8) ⌝ }
-{
-    let mut i = 0;
-    while i < 8 {
-        if bit_of(b, i) == 0 {
-            return i;
-        }
-        i += 1;
-    }
-    8
-}
-
-// Of the first n places of page p, or n: byte by byte, since a byte of 255 is eight used places.
-pub fn unused_place(s: &[u8], p: u32, n: u32) -> u32
-    requires { ⌜ (length (now s) ≡ stateBytes) × ((p < pages) × (n ≤ pageBytes)) ⌝ }
-    ensures { λ r. ⌜ r ≡ first n (λ j. used (pageMark (now (s .entry)) p j)) ⌝ }
-{
-    let start = marks_place(p);
-    let mut i = 0;
-    while i < Machine::MARK_BYTES {
-        let b = s[start + i];
-        if b != 255 {
-            let j = 8 * (i as u32) + lowest_zero(b);
-            return if j < n { j } else { n };
-        }
-        i += 1;
-    }
-    n
 }

@@ -11,16 +11,16 @@ use borrow.Author.Tests.{lt-ltb}
 use Rattle.words.specs.Bytes.{Bytes}
 use Rattle.rules.specs.Limits.{sizeLimit, mostFunctions}
 use Rattle.words.specs.Decide.{Each, none, more}
-use Rattle.rules.specs.Types.{variable, Variable, Tree, ptr, width, Uses, in-int, in-ptr, in-arr, in-struct, Primitive}
-use Rattle.rules.specs.Module.{Module, Function, regions, Instruction, constant, copy, operate, zeroExtend, signExtend, address, check, field, index, load, store, new, free, input, output, jump, branch, call, return}
+use Rattle.rules.specs.Types.{variable, Variable, Tree, ptr, width, Uses, in-int, in-ptr, in-arr, in-struct, in-rawPtr, in-bytes, Primitive}
+use Rattle.rules.specs.Module.{Module, Function, regions, Instruction, constant, copy, operate, zeroExtend, signExtend, address, check, field, index, load, store, new, free, input, output, jump, branch, call, return, newBytes, loadByte, storeByte, checkBytes}
 use Rattle.rules.specs.Flat.{size, structFlat}
 use Rattle.rules.specs.Decode.{moduleOf}
 use Rattle.rules.specs.Typing.{Typed}
 use Rattle.rules.specs.WellTyped.{scopeOf, FunctionOk, EntryOk, Ranges, Last, WellTyped}
 use Rattle.rules.specs.Verdict.{verdictOf, IsAccepted}
 use Rattle.typing.specs.Accepted.{accepted}
-use Rattle.typing.specs.Types.{Deep, deep-ok, deep-target, primitive-width, width-small, DeepFunction, DeepModule, deep}
-use Rattle.typing.specs.Flat.{some-size, struct-some}
+use Rattle.typing.specs.Types.{Deep, deep-target, primitive-width, width-small, DeepFunction, DeepModule, deep}
+use Rattle.typing.specs.Flat.{deep-sized, region-sized, struct-sized}
 
 -- ---- regions used
 
@@ -34,6 +34,8 @@ uses-more h in-int = in-int
 uses-more h (in-ptr {r = r} l u) = in-ptr {r = r} (omega arith) (uses-more h u)
 uses-more h (in-arr u) = in-arr (uses-more h u)
 uses-more h (in-struct e) = in-struct (each-more h e)
+uses-more h (in-rawPtr {r = r} l) = in-rawPtr {r = r} (omega arith)
+uses-more h in-bytes = in-bytes
 
 -- the first n of a list use the region parameters only, and all of them parameters and locals
 pub scope-in : (F : Function) (n j : ℕ) {T : Tree variable} → j < n → Uses (scopeOf F n j) T → Uses (F .regionParams) T
@@ -71,6 +73,10 @@ GoesOn (jump d) i n = Unit {0}
 GoesOn (branch a d) i n = suc i < n
 GoesOn (call a g rs xs) i n = suc i < n
 GoesOn (return a) i n = Unit {0}
+GoesOn (newBytes a) i n = suc i < n
+GoesOn (loadByte a b c) i n = suc i < n
+GoesOn (storeByte a b c) i n = suc i < n
+GoesOn (checkBytes a b) i n = suc i < n
 
 goes-before : (c : Instruction) (i n : ℕ) → suc i < n → GoesOn c i n
 goes-before (constant a d) i n h = h
@@ -92,6 +98,10 @@ goes-before (jump d) i n h = tt
 goes-before (branch a d) i n h = h
 goes-before (call a g rs xs) i n h = h
 goes-before (return a) i n h = tt
+goes-before (newBytes a) i n h = h
+goes-before (loadByte a b c) i n h = h
+goes-before (storeByte a b c) i n h = h
+goes-before (checkBytes a b) i n h = h
 
 -- no other kind is last
 other-kind : {A : Type 0} (k : ℕ) → (k ≡ 31) ⊎ (k ≡ 34) → (k ≡ 31 → ⊥) → (k ≡ 34 → ⊥) → A
@@ -118,6 +128,10 @@ goes-last (jump d) i n h = tt
 goes-last (branch a d) i n h = other-kind 32 h (λ e. omega arith) (λ e. omega arith)
 goes-last (call a g rs xs) i n h = other-kind 33 h (λ e. omega arith) (λ e. omega arith)
 goes-last (return a) i n h = tt
+goes-last (newBytes a) i n h = other-kind 36 h (λ e. omega arith) (λ e. omega arith)
+goes-last (loadByte a b c) i n h = other-kind 37 h (λ e. omega arith) (λ e. omega arith)
+goes-last (storeByte a b c) i n h = other-kind 38 h (λ e. omega arith) (λ e. omega arith)
+goes-last (checkBytes a b) i n h = other-kind 39 h (λ e. omega arith) (λ e. omega arith)
 
 -- ---- the facts
 
@@ -153,9 +167,6 @@ pub record ModuleFacts (m : Module) : Type 0 where
   pub structSize : (N : ℕ) → N < m .structs → (0 < structFlat m N .size) × (structFlat m N .size ≤ sizeLimit)
 
 module _ (m : Module) (t : WellTyped m) (d : DeepModule m) where
-  sized : {T : Tree variable} → Deep m T → (0 < size m T) × (size m T ≤ sizeLimit)
-  sized k = (some-size m d k, deep-ok k .sized)
-
   pub function-facts : (g : ℕ) → g < m .functions → FunctionFacts m (m .function g)
   function-facts g h =
       let F = m .function g in
@@ -173,8 +184,8 @@ module _ (m : Module) (t : WellTyped m) (d : DeepModule m) where
         regionParamScope = λ i l. scope-in F (F .regionParams) i l (k .regionTypes i (omega arith));
         resultScope = k .returns;
         resultPrimitive = k .returnPrimitive;
-        targetSize = λ a T r q. sized (deep-target (subst (Deep m) q (e .registerType a)));
-        regionSize = λ i. sized (e .regionType i);
+        targetSize = λ a T r q. deep-sized m t d (deep-target (subst (Deep m) q (e .registerType a)));
+        regionSize = λ i. region-sized m t d (e .regionType i);
         typed = λ i l. t .typed g i h l;
         goesOn = λ i l. goes i l (ℕ-discrete i (F .codeLength - 1));
       }
@@ -192,7 +203,7 @@ module _ (m : Module) (t : WellTyped m) (d : DeepModule m) where
     entry = t .entry;
     fields = d .fields;
     fieldScope = λ N h. t .structs N h .uses;
-    structSize = λ N h. (struct-some m d N, t .structs N h .sized);
+    structSize = struct-sized m t d;
   }
 
 -- what an accepted file has

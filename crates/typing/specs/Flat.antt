@@ -1,77 +1,64 @@
--- No type of an accepted file is empty: its size is not 0, and so it has places in a page. Assumes nothing.
-use mathlib.Core.Path.{_≡_, sym, _∙_}
-use mathlib.Core.Bool.{Bool, true, false, cond}
-use mathlib.Core.List.{List, [], _∷_, _++_}
-use Prim.Native.Nat.{ℕ, zero, suc, _+_, _*_, _<_, _≤_}
-use native.Mathlib.Nat.{mul-le-mul-left}
-use native.Mathlib.Decide.{ℕ-discrete, decLt}
+-- The types of an accepted file are those that the laws of layouts take (`TypesOk`); none of them is empty, so that it has places in a
+-- page. Assumes nothing.
+use mathlib.Core.Path.{sym, subst}
+use mathlib.Core.Logic.{inl, inr}
+use mathlib.Core.List.{List}
+use Prim.Native.Nat.{ℕ, _<_, _≤_}
 use native.Mathlib.Omega.{arith}
-use lib.Dec.{leb}
-use lib.ListN.{length, getD, length-append, List·getD-append, List·getD-eq-default}
-use lib.Seq.{getD-at}
+use Rattle.words.specs.Bytes.{listFrom}
+use Rattle.words.specs.ByteLaws.{length-listFrom}
+use Rattle.words.specs.Decide.{Each, none, more}
 use Rattle.rules.specs.Limits.{sizeLimit}
-use Rattle.words.specs.Decide.{Each, more}
-use Rattle.rules.specs.Types.{RegionKind, variable, Tree, int, ptr, arr, struct}
+use Rattle.rules.specs.Types.{variable, Variable, region, Tree, struct}
 use Rattle.rules.specs.Module.{Module}
-use Rattle.rules.specs.Flat.{Layout, none, empty, packed, beside, copiesOf, copies, subLayout, flatWith, fieldsFrom, fieldsWith, layouts, flat, structFlat, size}
-use Rattle.layout.specs.Prims.{size-copiesOf, length-layouts}
-use Rattle.typing.specs.Types.{Deep, deep-int, deep-ptr, deep-arr, deep-struct, width-small, DeepModule}
+use Rattle.rules.specs.Flat.{subLayout, flatWith, flat, structFlat, size}
+use Rattle.rules.specs.WellTyped.{WellTyped}
+use Rattle.layout.specs.TypesOk.{Width, one, two, four, GoodTree, good-int, good-ptr, good-arr, good-struct, good-raw, RegionTree, typed, untyped, TypesOk}
+use Rattle.layout.specs.Flat.{size-pos}
+use Rattle.typing.specs.Types.{Deep, deep-int, deep-ptr, deep-arr, deep-struct, deep-raw, DeepRegion, deep-typed, deep-untyped, deep-ok, DeepModule, Width as OneWidth}
 
-copies-some : {k : RegionKind} (n : ℕ) (L : Layout k) → 1 ≤ n → 0 < L .size → 0 < copies n L .size
-unfolding copies
-copies-some {k} n L h l = go (leb (n * L .size) sizeLimit)
-  where
-    go : (b : Bool) → 0 < (cond b (copiesOf n L) (none {k = k})) .size
-    go true = let e = size-copiesOf n L in let p = mul-le-mul-left n l in omega (arith, e, p)
-    go false = omega arith
+good-width : {w : ℕ} → OneWidth w → Width w
+good-width (inl e) = subst Width (sym e) one
+good-width (inr (inl e)) = subst Width (sym e) two
+good-width (inr (inr e)) = subst Width (sym e) four
 
-beside-some : (L M : Layout variable) → 0 < L .size + M .size → 0 < beside L M .size
-unfolding beside
-beside-some L M h = go (leb (L .size + M .size) sizeLimit)
-  where
-    go : (b : Bool) → 0 < (cond b (packed L M) (none {k = variable})) .size
-    go true = h
-    go false = omega arith
+pub good-deep : {m : Module} {T : Tree variable} → Deep m T → GoodTree m T
+good-deep (deep-int k w) = good-int (good-width w)
+good-deep (deep-ptr k d) = good-ptr (good-deep d)
+good-deep (deep-arr k some few d) = good-arr some (k .sized) (good-deep d)
+good-deep (deep-struct k) = good-struct (k .sized) (k .counts)
+good-deep (deep-raw k some few) = good-raw some few
 
--- each layout of the list has a byte
-abbrev Filled : List (Layout variable) → Type 0
-Filled ls = (N : ℕ) → 0 < getD ls N none .size
+pub good-region : {m : Module} {T : Tree variable} → DeepRegion m T → RegionTree m T
+good-region (deep-typed d) = typed (good-deep d)
+good-region deep-untyped = untyped
 
-flat-some : {m : Module} (ls : List (Layout variable)) (T : Tree variable) → Filled ls → Deep m T → 0 < flatWith ls T .size
-unfolding flatWith subLayout
-flat-some ls (int w) l (deep-int k d) = width-small w d .0
-flat-some ls (ptr T r) l (deep-ptr k d) = omega arith
-flat-some ls (arr n T) l (deep-arr k a b d) = copies-some n (flatWith ls T) a (flat-some ls T l d)
-flat-some ls (struct N rs) l (deep-struct k) = l N
+good-each : {m : Module} {l : List (Tree variable)} → Each (Deep m) l → Each (GoodTree m) l
+good-each none = none
+good-each (more d e) = more (good-deep d) (good-each e)
 
-from-some : (ls : List (Layout variable)) (L : Layout variable) (Ts : List (Tree variable)) → 0 < L .size → 0 < fieldsFrom ls L Ts .size
-unfolding fieldsFrom
-from-some ls L [] h = h
-from-some ls L (T ∷ Ts) h = from-some ls (beside L (flatWith ls T)) Ts (beside-some L (flatWith ls T) (omega arith))
+module _ (m : Module) (t : WellTyped m) (d : DeepModule m) where
+  pub types-ok : TypesOk m
+  types-ok = record {
+    some = d .someFields;
+    fields = λ N h. good-each (d .fields N);
+    uses = λ N h. t .structs N h .uses;
+    regionTypes = λ g i h l. good-region (d .function g .regionType i);
+    registerTypes = λ g a h l. good-deep (d .function g .registerType a);
+    results = λ g h. good-deep (d .function g .result);
+  }
 
-fields-some : {m : Module} (ls : List (Layout variable)) (Ts : List (Tree variable)) → Filled ls → 0 < length Ts → Each (Deep m) Ts → 0 < fieldsWith ls Ts .size
-unfolding fieldsWith fieldsFrom
-fields-some ls [] l h e = absurd (omega arith)
-fields-some ls (T ∷ Ts) l h (more d e) = from-some ls (beside empty (flatWith ls T)) Ts (beside-some empty (flatWith ls T) (omega (arith, flat-some ls T l d)))
+  pub deep-sized : {T : Tree variable} → Deep m T → (0 < size m T) × (size m T ≤ sizeLimit)
+  deep-sized {T} k = (size-pos m types-ok T (good-deep k), deep-ok k .sized)
 
-module _ (m : Module) (d : DeepModule m) where
-  layouts-some : (n : ℕ) → n ≤ m .structs → Filled (layouts m n)
-  unfolding layouts
-  layouts-some zero h N = omega arith
-  layouts-some (suc n) h N = go (decLt N n) (ℕ-discrete N n) (layouts-some n (omega arith))
-    where
-      go : Dec (N < n) → Dec (N ≡ n) → Filled (layouts m n) → 0 < getD (layouts m n ++ fieldsWith (layouts m n) (m .fields n) ∷ []) N none .size
-      go (yes l) e ih = rw (List·getD-append (layouts m n) (fieldsWith (layouts m n) (m .fields n) ∷ []) none N (omega (arith, length-layouts m n))) (ih N)
-      go (no l) (yes e) ih = rw (getD-at (layouts m n) (fieldsWith (layouts m n) (m .fields n)) [] none N (length-layouts m n ∙ sym e))
-          (fields-some (layouts m n) (m .fields n) ih (d .someFields n (omega arith)) (d .fields n))
-      go (no l) (no e) ih =
-          rw (List·getD-eq-default (layouts m n ++ fieldsWith (layouts m n) (m .fields n) ∷ []) none {n = N} (omega (arith, length-append (layouts m n) (fieldsWith (layouts m n) (m .fields n) ∷ []), length-layouts m n))) (omega arith)
+  -- an untyped region has places of one byte
+  pub region-sized : {T : Tree variable} → DeepRegion m T → (0 < size m T) × (size m T ≤ sizeLimit)
+  unfolding flat flatWith
+  region-sized (deep-typed k) = deep-sized k
+  region-sized deep-untyped = (omega arith, omega arith)
 
-  -- a deep type has a byte, and so has a struct
-  pub some-size : {T : Tree variable} → Deep m T → 0 < size m T
-  unfolding flat
-  some-size {T} k = flat-some (layouts m (m .structs)) T (layouts-some (m .structs) (omega arith)) k
-
-  pub struct-some : (N : ℕ) → 0 < structFlat m N .size
-  unfolding structFlat
-  struct-some N = layouts-some (m .structs) (omega arith) N
+  pub struct-sized : (N : ℕ) → N < m .structs → (0 < structFlat m N .size) × (structFlat m N .size ≤ sizeLimit)
+  unfolding flat flatWith structFlat subLayout
+  struct-sized N h =
+      let rs : List Variable = listFrom (λ i. region i) 0 (m .arity N) in
+      (size-pos m types-ok (struct N rs) (good-struct (t .structs N h .sized) (length-listFrom (λ i. region i) 0 (m .arity N))), t .structs N h .sized)

@@ -13,7 +13,7 @@ use lib.Seq.{getD-at}
 use borrow.Author.Tests.{ltb-true, leb-true, eqb-true, lt-ltb, le-ltb, leb-false}
 use Rattle.words.specs.Bytes.{Bytes}
 use Rattle.rules.specs.Limits.{mostTerms, mostStructs, mostFunctions, mostRegions, mostRegionParams, mostEntries, mostRegisters, mostInstructions, sizeLimit}
-use Rattle.rules.specs.File.{records, recordOf, regionsOf, returnOf, parametersOf, instructionsOf, within, isTerm, isInstruction, kindFiller, kindInteger, kindPointer, kindArray, kindStruct, kindName, kindFields, kindFunction, kindRegions, kindRegisters, kindCall, kindArguments}
+use Rattle.rules.specs.File.{records, recordOf, regionsOf, returnOf, parametersOf, instructionsOf, within, isTerm, isInstruction, kindFiller, kindInteger, kindPointer, kindArray, kindStruct, kindUntyped, kindName, kindFields, kindFunction, kindRegions, kindRegisters, kindCall, kindArguments}
 use Rattle.rules.specs.Walk.{to, toCode, toRegisters, headed, opened, toTerm, named, done, called, toFunction, toName, step, next, Scan, nextScan, scan, whole}
 use Rattle.rules.specs.Records.{integerFits, pointerFits, arrayFits, structFits, termFits, nameFits, headRanges, functionFits, listFits, seven, isFiller, instructionFits, argumentsFit, fitsIn, fits, endFits, recordTestWith, recordTest}
 use Rattle.rules.specs.Decode.{registersAt, codeAt, after, places, structStart}
@@ -307,10 +307,15 @@ module _ (f : Bytes) (t : Scan) (w : Walk) (r : ℕ) where
 pub record TermRecord (x : Record) : Type 0 where
   pub width : eqb (x .kind) kindInteger ≡ true → (eqb (x .a) 1 || (eqb (x .a) 2 || eqb (x .a) 4)) ≡ true
   pub count : eqb (x .kind) kindArray ≡ true → within (x .d) 1 sizeLimit ≡ true
+  pub untyped : eqb (x .kind) kindUntyped ≡ true → within (x .d) 1 sizeLimit ≡ true
 
 pub term-record : (t w : Walk) (x : Record) → termFits t w x ≡ true → TermRecord x
 unfolding termFits
-term-record t w x e = record { width = λ k. integer (eqb-true (x .kind) kindInteger k); count = λ k. array (eqb-true (x .kind) kindArray k) }
+term-record t w x e = record {
+  width = λ k. integer (eqb-true (x .kind) kindInteger k);
+  count = λ k. array (eqb-true (x .kind) kindArray k);
+  untyped = λ k. raw (eqb-true (x .kind) kindUntyped k);
+}
   where
     forms : ((eqb (x .kind) kindInteger && integerFits x) || (eqb (x .kind) kindPointer && pointerFits w x))
         || ((eqb (x .kind) kindArray && arrayFits w x) || (eqb (x .kind) kindStruct && structFits t x)) ≡ true
@@ -329,6 +334,10 @@ term-record t w x e = record { width = λ k. integer (eqb-true (x .kind) kindInt
 
     array : x .kind ≡ kindArray → within (x .d) 1 sizeLimit ≡ true
     array k = right (ltb (x .a) (w .terms)) _ (left (ltb (x .a) (w .terms) && within (x .d) 1 sizeLimit) _ (or-one (arrayFits w x) (rw k at forms)))
+
+    -- no record of this kind fits yet
+    raw : x .kind ≡ kindUntyped → within (x .d) 1 sizeLimit ≡ true
+    raw k = absurd (false≢true (rw k at forms))
 
 pub record Good (f : Bytes) (s : Scan) (r : ℕ) : Type 0 where
   pub place : Place f (s .walk) r (s .walk .phase)
