@@ -14,8 +14,8 @@ use Rattle.words.specs.ByteLaws.{length-listOf, getD-listOf}
 use Rattle.words.specs.Choose.{both, cond-split}
 use Rattle.words.specs.Decide.{Each}
 use Rattle.rules.specs.Limits.{mostRegions}
-use Rattle.rules.specs.File.{recordOf, byteOfD, kindInteger, kindPointer, kindArray}
-use Rattle.rules.specs.Types.{variable, Variable, region, nowhere, Tree, int, ptr, arr, struct, Uses, in-int, in-ptr, in-arr, in-struct}
+use Rattle.rules.specs.File.{recordOf, byteOfD, kindInteger, kindPointer, kindArray, kindUntyped}
+use Rattle.rules.specs.Types.{variable, Variable, region, nowhere, Tree, int, ptr, arr, struct, rawPtr, Uses, in-int, in-ptr, in-arr, in-struct, in-rawPtr}
 use Rattle.rules.specs.Decode.{noTree, regionBytes, treeOf, treesOf, moduleOf}
 use Rattle.rules.specs.Records.{slot, four}
 use Rattle.rules.specs.Walk.{whole}
@@ -25,10 +25,11 @@ use Rattle.typing.specs.Walk.{Fits}
 use Rattle.positions.specs.Maps.{Narrow, each-of}
 use Rattle.checker.specs.Ranges.{TermCase, of-integer, of-pointer, of-array, of-struct, term-case, integer-plain, array-plain, pointer-region, struct-regions, terms-fit}
 
--- "region variable b (0-6)"; "region arguments .., each 0-6"
+-- "region variable b (0-6)"; "region arguments .., each 0-6"; of an untyped pointer a likewise
 pub record RegionsFit (x : Record) : Type 0 where
   pub pointer : x .kind ≡ kindPointer → x .b < mostRegions
   pub arguments : (j : ℕ) → j < x .b → byteOfD x j < mostRegions
+  pub untyped : x .kind ≡ kindUntyped → x .a < mostRegions
 
 -- ---- refusal 4 asks for it
 
@@ -56,11 +57,12 @@ four-low x n e = go
 
 case-fits : (t w : Walk) (x : Record) → TermCase t w x → RegionsFit x
 case-fits t w x (of-integer k i) =
-    let z = integer-plain t w x i in record { pointer = λ e. absurd (omega arith); arguments = λ j l. absurd (omega arith) }
-case-fits t w x (of-pointer k i) = let p = pointer-region t w x i in record { pointer = λ e. p .0; arguments = λ j l. zero-byte x (p .1) j }
-case-fits t w x (of-array k i) = let z = array-plain t w x i in record { pointer = λ e. absurd (omega arith); arguments = λ j l. absurd (omega arith) }
+    let z = integer-plain t w x i in record { pointer = λ e. absurd (omega arith); arguments = λ j l. absurd (omega arith); untyped = λ e. absurd (omega arith) }
+case-fits t w x (of-pointer k i) = let p = pointer-region t w x i in record { pointer = λ e. p .0; arguments = λ j l. zero-byte x (p .1) j; untyped = λ e. absurd (omega arith) }
+case-fits t w x (of-array k i) =
+    let z = array-plain t w x i in record { pointer = λ e. absurd (omega arith); arguments = λ j l. absurd (omega arith); untyped = λ e. absurd (omega arith) }
 case-fits t w x (of-struct k i) =
-    record { pointer = λ e. absurd (omega arith); arguments = four-low x (x .b) (struct-regions t w x i .1) }
+    record { pointer = λ e. absurd (omega arith); arguments = four-low x (x .b) (struct-regions t w x i .1); untyped = λ e. absurd (omega arith) }
 
 -- ---- and then no term writes a region variable above 6
 
@@ -78,8 +80,9 @@ unfolding treeOf
 tree-uses ts x h fit =
     cond-split (Uses mostRegions) (eqb (x .kind) kindInteger) (int (x .a)) _ (λ e. in-int)
     (λ e. cond-split (Uses mostRegions) (eqb (x .kind) kindPointer) (ptr (getD ts (x .a) noTree) (region (x .b))) _ (λ d. in-ptr (fit .pointer (eqb-true (x .kind) kindPointer d)) (h (x .a)))
-    (λ d. cond-split (Uses mostRegions) (eqb (x .kind) kindArray) (arr (x .d) (getD ts (x .a) noTree)) (struct (x .a) (regionBytes x (x .b))) (λ c. in-arr (h (x .a)))
-    (λ c. in-struct (arguments-use x (x .b) (fit .arguments)))))
+    (λ d. cond-split (Uses mostRegions) (eqb (x .kind) kindArray) (arr (x .d) (getD ts (x .a) noTree)) _ (λ c. in-arr (h (x .a)))
+    (λ c. cond-split (Uses mostRegions) (eqb (x .kind) kindUntyped) (rawPtr (x .d) (region (x .a))) (struct (x .a) (regionBytes x (x .b))) (λ b. in-rawPtr (fit .untyped (eqb-true (x .kind) kindUntyped b)))
+    (λ b. in-struct (arguments-use x (x .b) (fit .arguments))))))
 
 trees-use : (f : Bytes) (n : ℕ) → ((t : ℕ) → t < n → RegionsFit (recordOf f t)) → (i : ℕ) → Uses mostRegions (getD (treesOf f n) i noTree)
 unfolding treesOf

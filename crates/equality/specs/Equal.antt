@@ -10,22 +10,23 @@ use native.Mathlib.Omega.{arith}
 use lib.Dec.{eqb, ltb}
 use lib.ListN.{length, getD, set}
 use lib.Seq.{getD-set-same, getD-set-other}
-use borrow.Author.Tests.{eq-eqb, eqb-true, ltb-true, ltb-false}
+use borrow.Author.Tests.{eq-eqb, eqb-true, eqb-false, ne-eqb, ltb-true, ltb-false}
 use Rattle.words.specs.Bytes.{Bytes, AllBytes, listOf}
 use Rattle.words.specs.ByteLaws.{length-listOf, getD-listOf, listOf-agree, map-listFrom}
 use Rattle.words.specs.Choose.{bool-same, both, both-of, either, neither, lt-or-le}
 use Rattle.words.specs.First.{allBelow}
 use Rattle.words.specs.FirstLaws.{all-holds, all-from}
-use Rattle.words.specs.Decide.{does, does-true, decBoth, decList, true-does}
-use Rattle.rules.specs.Types.{RegionKind, variable, Region, region, decRegion, Tree, int, ptr, arr, struct, sub, nowhere, decTree}
+use Rattle.words.specs.Decide.{does, does-true, decList, true-does}
+use Rattle.rules.specs.Types.{RegionKind, variable, Region, region, decRegion, Tree, int, ptr, arr, struct, rawPtr, sub, nowhere, form, numberOf, inner, regionOf, args, decTree}
 use Rattle.rules.specs.Decode.{moduleOf}
 use Rattle.terms.specs.declared.Head.{Head}
-use Rattle.terms.specs.declared.Head.the-variants.{Int, Ptr, Arr, Struct}
+use Rattle.terms.specs.declared.Head.the-variants.{Int, Ptr, Arr, Struct, Untyped}
 use Rattle.terms.specs.Heads.{digit, argsOf, placeOf, treeAt, headOf, grow, formNo, mainNo, innerNo, regionNo, argsNo, wordNo}
 use Rattle.terms.specs.HeadLaws.{tree-step, digit-lt, Fair, fair}
 use Rattle.terms.specs.Extents.{Terms}
 use Rattle.terms.specs.ExtentLaws.{module-term}
-use Rattle.terms.specs.Compare.{byteUnder, under, under-is, does-map, does-both, does-nat, does-region, inner-less, inner-le}
+use Rattle.terms.specs.Readers.{form-grow, entryType, entry-term, entry-bytes, entry-form}
+use Rattle.terms.specs.Compare.{byteUnder, under, under-is, form-sub, does-region, tree-other, tree-same, inner-less, inner-le}
 
 -- ---- what the code compares
 
@@ -37,8 +38,15 @@ argsSame p d q e n = allBelow n (λ j. eqb (byteUnder p (digit d j)) (byteUnder 
 unfoldable pub headsSame : Bytes → Head → Bytes → Head → Bool
 headsSame p x q y =
     (eqb (formNo x) (formNo y) && eqb (mainNo x) (mainNo y))
-    && ((not (eqb (formNo x) 2) || eqb (byteUnder p (regionNo x)) (byteUnder q (regionNo y)))
+    && ((not (eqb (formNo x) 2 || eqb (formNo x) 11) || eqb (byteUnder p (regionNo x)) (byteUnder q (regionNo y)))
     && (eqb (argsNo x) (argsNo y) && argsSame p (wordNo x) q (wordNo y) (argsNo x)))
+
+-- as the code asks for each number
+pub heads-are : (p : Bytes) (x : Head) (q : Bytes) (y : Head) {f f' m m' r r' a a' : ℕ} {s : Bool} → f ≡ formNo x → f' ≡ formNo y → m ≡ mainNo x → m' ≡ mainNo y
+    → r ≡ byteUnder p (regionNo x) → r' ≡ byteUnder q (regionNo y) → a ≡ argsNo x → a' ≡ argsNo y → s ≡ argsSame p (wordNo x) q (wordNo y) (argsNo x)
+    → (eqb f f' && eqb m m') && ((not (eqb f 2 || eqb f 11) || eqb r r') && (eqb a a' && s)) ≡ headsSame p x q y
+unfolding headsSame
+heads-are p x q y ef ef' em em' er er' ea ea' es = rw (ef, ef', em, em', er, er', ea, ea', es)
 
 -- the trees at places i and j are equal
 unfoldable pub placesSame : (k : RegionKind) → Bytes → ℕ → Bytes → ℕ → Bytes → Bool
@@ -84,6 +92,32 @@ args-same k p q d n e m =
         map-listFrom (under p) (λ j. region (digit d j)) 0 n
         ∙ listOf-agree (λ j. under p (region (digit d j))) (λ j. region (byteUnder p (digit d j))) n (λ j l. under-is p (region (digit d j)))
 
+-- ---- equal trees of one form
+
+int-same : (k : RegionKind) (v w : ℕ) → does (decTree {k = k} (int v) (int w)) ≡ eqb v w
+int-same k v w = tree-same (int v) (int w) (eqb v w) (λ e. eq-eqb v w (ap numberOf e)) (λ h. ap int (eqb-true v w h))
+
+module _ {k : RegionKind} where
+  ptr-same : (T U : Tree k) (r s : Region k) → does (decTree (ptr T r) (ptr U s)) ≡ does (decTree T U) && does (decRegion r s)
+  ptr-same T U r s = tree-same (ptr T r) (ptr U s) (does (decTree T U) && does (decRegion r s))
+      (λ e. both-of (true-does (decTree T U) (ap inner e)) (true-does (decRegion r s) (ap regionOf e)))
+      (λ h. let b = both (does (decTree T U)) (does (decRegion r s)) h in ap₂ {C = Tree k} ptr (does-true (decTree T U) (b .0)) (does-true (decRegion r s) (b .1)))
+
+  arr-same : (n m : ℕ) (T U : Tree k) → does (decTree (arr n T) (arr m U)) ≡ eqb n m && does (decTree T U)
+  arr-same n m T U = tree-same (arr n T) (arr m U) (eqb n m && does (decTree T U))
+      (λ e. both-of (eq-eqb n m (ap numberOf e)) (true-does (decTree T U) (ap inner e)))
+      (λ h. let b = both (eqb n m) (does (decTree T U)) h in ap₂ {C = Tree k} arr (eqb-true n m (b .0)) (does-true (decTree T U) (b .1)))
+
+  struct-same : (N M : ℕ) (rs ss : List (Region k)) → does (decTree (struct N rs) (struct M ss)) ≡ eqb N M && does (decList decRegion rs ss)
+  struct-same N M rs ss = tree-same (struct N rs) (struct M ss) (eqb N M && does (decList decRegion rs ss))
+      (λ e. both-of (eq-eqb N M (ap numberOf e)) (true-does (decList decRegion rs ss) (ap args e)))
+      (λ h. let b = both (eqb N M) (does (decList decRegion rs ss)) h in ap₂ {C = Tree k} struct (eqb-true N M (b .0)) (does-true (decList decRegion rs ss) (b .1)))
+
+  raw-same : (n m : ℕ) (r s : Region k) → does (decTree (rawPtr n r) (rawPtr m s)) ≡ eqb n m && does (decRegion r s)
+  raw-same n m r s = tree-same (rawPtr n r) (rawPtr m s) (eqb n m && does (decRegion r s))
+      (λ e. both-of (eq-eqb n m (ap numberOf e)) (true-does (decRegion r s) (ap regionOf e)))
+      (λ h. let b = both (eqb n m) (does (decRegion r s)) h in ap₂ {C = Tree k} rawPtr (eqb-true n m (b .0)) (does-true (decRegion r s) (b .1)))
+
 -- ---- one step along two terms
 
 regions-same : (k : RegionKind) (p q : Bytes) (r s : ℕ) → does (decRegion (under {k = k} p (region r)) (under q (region s))) ≡ eqb (byteUnder p r) (byteUnder q s)
@@ -105,39 +139,56 @@ module _ (k : RegionKind) (f p q : Bytes) where
   abbrev decInside : (a b : ℕ) → Dec (sub (under {k = k} p) (treeAt f a) ≡ sub (under q) (treeAt f b))
   decInside a b = decTree (sub (under p) (treeAt f a)) (sub (under q) (treeAt f b))
 
+  -- heads of other forms: the trees differ, and so the code says
+  form-under : (to : Bytes) (x : Head) → form (sub (under {k = k} to) (grow (treeAt f) x)) ≡ formNo x
+  form-under to x = form-sub (under to) (grow (treeAt f) x) ∙ sym (form-grow f x)
+
+  other : (x y : Head) → (formNo x ≡ formNo y → ⊥) → grown x y ≡ headsSame p x q y && inside x y
+  unfolding headsSame
+  other x y h =
+      tree-other (sub (under p) (grow (treeAt f) x)) (sub (under q) (grow (treeAt f) y)) (λ e. h (sym (form-under p x) ∙ e ∙ form-under q y))
+      ∙ sym (rw (ne-eqb (formNo x) (formNo y) h))
+
   heads-step : (x y : Head) → grown x y ≡ headsSame p x q y && inside x y
-  unfolding grow sub decTree headsSame argsSame allBelow placesSame
+  unfolding grow sub headsSame argsSame allBelow placesSame
   heads-step (Int v) (Int w) =
-      does-map _ _ (ℕ-discrete v w) ∙ does-nat v w ∙ sym (rw (places-none k f p q, and-true (eqb v w)) (and-true (eqb v w)))
-  heads-step (Int v) (Ptr b s) = refl
-  heads-step (Int v) (Arr m b) = refl
-  heads-step (Int v) (Struct M m e) = refl
-  heads-step (Ptr a r) (Int w) = refl
+      int-same k v w ∙ sym (rw (places-none k f p q, and-true (eqb v w)) (and-true (eqb v w)))
+  heads-step (Int v) (Ptr b s) = other (Int v) (Ptr b s) (λ z. omega arith)
+  heads-step (Int v) (Arr m b) = other (Int v) (Arr m b) (λ z. omega arith)
+  heads-step (Int v) (Struct M m e) = other (Int v) (Struct M m e) (λ z. omega arith)
+  heads-step (Int v) (Untyped m s) = other (Int v) (Untyped m s) (λ z. omega arith)
+  heads-step (Ptr a r) (Int w) = other (Ptr a r) (Int w) (λ z. omega arith)
   heads-step (Ptr a r) (Ptr b s) =
-      does-map _ _ (decBoth (decInside a b) (decRegion (under p (region r)) (under q (region s))))
-      ∙ does-both (decInside a b) (decRegion (under p (region r)) (under q (region s)))
+      ptr-same (sub (under p) (treeAt f a)) (sub (under q) (treeAt f b)) (under p (region r)) (under q (region s))
       ∙ ap (λ (t : Bool). does (decInside a b) && t) (regions-same k p q r s)
       ∙ and-comm (does (decInside a b)) (eqb (byteUnder p r) (byteUnder q s))
       ∙ ap (λ (t : Bool). t && does (decInside a b)) (sym (and-true (eqb (byteUnder p r) (byteUnder q s))))
-  heads-step (Ptr a r) (Arr m b) = refl
-  heads-step (Ptr a r) (Struct M m e) = refl
-  heads-step (Arr n a) (Int w) = refl
-  heads-step (Arr n a) (Ptr b s) = refl
+  heads-step (Ptr a r) (Arr m b) = other (Ptr a r) (Arr m b) (λ z. omega arith)
+  heads-step (Ptr a r) (Struct M m e) = other (Ptr a r) (Struct M m e) (λ z. omega arith)
+  heads-step (Ptr a r) (Untyped m s) = other (Ptr a r) (Untyped m s) (λ z. omega arith)
+  heads-step (Arr n a) (Int w) = other (Arr n a) (Int w) (λ z. omega arith)
+  heads-step (Arr n a) (Ptr b s) = other (Arr n a) (Ptr b s) (λ z. omega arith)
   heads-step (Arr n a) (Arr m b) =
-      does-map _ _ (decBoth (decInside a b) (ℕ-discrete n m))
-      ∙ does-both (decInside a b) (ℕ-discrete n m)
-      ∙ ap (λ (t : Bool). does (decInside a b) && t) (does-nat n m)
-      ∙ and-comm (does (decInside a b)) (eqb n m)
+      arr-same n m (sub (under p) (treeAt f a)) (sub (under q) (treeAt f b))
       ∙ ap (λ (t : Bool). t && does (decInside a b)) (sym (and-true (eqb n m)))
-  heads-step (Arr n a) (Struct M m e) = refl
-  heads-step (Struct N n d) (Int w) = refl
-  heads-step (Struct N n d) (Ptr b s) = refl
-  heads-step (Struct N n d) (Arr m b) = refl
+  heads-step (Arr n a) (Struct M m e) = other (Arr n a) (Struct M m e) (λ z. omega arith)
+  heads-step (Arr n a) (Untyped m s) = other (Arr n a) (Untyped m s) (λ z. omega arith)
+  heads-step (Struct N n d) (Int w) = other (Struct N n d) (Int w) (λ z. omega arith)
+  heads-step (Struct N n d) (Ptr b s) = other (Struct N n d) (Ptr b s) (λ z. omega arith)
+  heads-step (Struct N n d) (Arr m b) = other (Struct N n d) (Arr m b) (λ z. omega arith)
   heads-step (Struct N n d) (Struct M m e) =
-      does-map _ _ (decBoth (ℕ-discrete N M) (decList decRegion (map (under {k = k} p) (argsOf d n)) (map (under q) (argsOf e m))))
-      ∙ does-both (ℕ-discrete N M) (decList decRegion (map (under {k = k} p) (argsOf d n)) (map (under q) (argsOf e m)))
-      ∙ ap₂ (λ (s t : Bool). s && t) (does-nat N M) (args-same k p q d n e m)
+      struct-same N M (map (under p) (argsOf d n)) (map (under q) (argsOf e m))
+      ∙ ap (λ (t : Bool). eqb N M && t) (args-same k p q d n e m)
       ∙ sym (rw (places-none k f p q) (and-true (eqb N M && (eqb n m && argsSame p d q e n))))
+  heads-step (Struct N n d) (Untyped m s) = other (Struct N n d) (Untyped m s) (λ z. omega arith)
+  heads-step (Untyped n r) (Int w) = other (Untyped n r) (Int w) (λ z. omega arith)
+  heads-step (Untyped n r) (Ptr b s) = other (Untyped n r) (Ptr b s) (λ z. omega arith)
+  heads-step (Untyped n r) (Arr m b) = other (Untyped n r) (Arr m b) (λ z. omega arith)
+  heads-step (Untyped n r) (Struct M m e) = other (Untyped n r) (Struct M m e) (λ z. omega arith)
+  heads-step (Untyped n r) (Untyped m s) =
+      raw-same n m (under p (region r)) (under q (region s))
+      ∙ ap (λ (t : Bool). eqb n m && t) (regions-same k p q r s)
+      ∙ sym (rw (places-none k f p q, and-true (eqb (byteUnder p r) (byteUnder q s))) (and-true (eqb n m && eqb (byteUnder p r) (byteUnder q s))))
 
   -- the trees are equal where their heads are, and the trees inside
   pub places-step : (i j : ℕ) (x y : Head) → x ≡ headOf f i → y ≡ headOf f j → placesSame k f i p j q ≡ headsSame p x q y && placesSame k f (innerNo x) p (innerNo y) q
@@ -203,6 +254,7 @@ module _ (f : Bytes) (g : AllBytes f) (p : Bytes) (id : Identity p) where
   same-head i (Int w) e below = refl
   same-head i (Ptr a r) e below = ap₂ {C = Tree variable} ptr (below a (e .0)) (under-is p (region r) ∙ ap region (id r (e .1)))
   same-head i (Arr n a) e below = ap {B = Tree variable} (arr n) (below a (e .0))
+  same-head i (Untyped n r) e below = ap {B = Tree variable} (rawPtr n) (under-is p (region r) ∙ ap region (id r (e .1)))
   same-head i (Struct N n d) e below = ap {B = Tree variable} (struct N) (same-args d n (e .2))
 
   same-below : (b i : ℕ) → i < b → sub (under p) (treeAt f i) ≡ treeAt f i
@@ -216,3 +268,34 @@ module _ (f : Bytes) (g : AllBytes f) (p : Bytes) (id : Identity p) where
 
   pub term-identity : (n : ℕ) → Terms f n → (t : ℕ) → sub (under p) (moduleOf f .term t) ≡ moduleOf f .term t
   term-identity n h t = ap (sub (under p)) (module-term f n h t) ∙ under-identity (placeOf n t) ∙ sym (module-term f n h t)
+
+-- ---- the types of regions
+
+-- of two entries, one of them untyped: their types are equal where the entries are
+module _ (f : Bytes) (a b : ℕ) (q : Bytes) where
+  abbrev decTypes : Dec (entryType f a ≡ sub (under q) (entryType f b))
+  decTypes = decTree (entryType f a) (sub (under q) (entryType f b))
+
+  both-untyped : a ≡ 255 → b ≡ 255 → entryType f a ≡ sub (under q) (entryType f b)
+  unfolding sub
+  both-untyped e z = entry-bytes f a e ∙ sym (ap (sub (under q)) (entry-bytes f b z))
+
+  first-untyped : a ≡ 255 → (b ≡ 255 → ⊥) → form (entryType f a) ≡ form (sub (under {k = variable} q) (entryType f b)) → ⊥
+  first-untyped e z w = entry-form f b z (sym (form-sub (under {k = variable} q) (entryType f b)) ∙ sym w ∙ ap form (entry-bytes f a e))
+
+  second-untyped : (a ≡ 255 → ⊥) → b ≡ 255 → form (entryType f a) ≡ form (sub (under {k = variable} q) (entryType f b)) → ⊥
+  second-untyped z e w = entry-form f a z (w ∙ form-sub (under {k = variable} q) (entryType f b) ∙ ap form (entry-bytes f b e))
+
+  pub untyped-same : eqb a 255 || eqb b 255 ≡ true → eqb a b ≡ does decTypes
+  untyped-same h = go (ℕ-discrete a 255) (ℕ-discrete b 255)
+    where
+      go : Dec (a ≡ 255) → Dec (b ≡ 255) → eqb a b ≡ does decTypes
+      go (yes e) (yes z) = eq-eqb a b (e ∙ sym z) ∙ sym (true-does decTypes (both-untyped e z))
+      go (yes e) (no z) = ne-eqb a b (λ w. z (sym w ∙ e)) ∙ sym (tree-other (entryType f a) (sub (under q) (entryType f b)) (first-untyped e z))
+      go (no z) (yes e) = ne-eqb a b (λ w. z (w ∙ e)) ∙ sym (tree-other (entryType f a) (sub (under q) (entryType f b)) (second-untyped z e))
+      go (no z) (no y) = absurd (⊎-elim (λ l. z (eqb-true a 255 l)) (λ l. y (eqb-true b 255 l)) (either (eqb a 255) (eqb b 255) h))
+
+  pub typed-same : eqb a 255 || eqb b 255 ≡ false → does (decTree (moduleOf f .term a) (sub (under q) (moduleOf f .term b))) ≡ does decTypes
+  typed-same h =
+      let w = neither (eqb a 255) (eqb b 255) h in
+      ap₂ (λ (S T : Tree variable). does (decTree S (sub (under q) T))) (sym (entry-term f a (eqb-false a 255 (w .0)))) (sym (entry-term f b (eqb-false b 255 (w .1))))

@@ -5,9 +5,11 @@ ghost use Rattle.words.specs.Decide.{does};
 ghost use Rattle.rules.specs.Decode.{moduleOf};
 ghost use Rattle.rules.specs.Types.{variable, live, sub, decTree};
 ghost use Rattle.terms.specs.Extents.{Terms};
+ghost use Rattle.terms.specs.Readers.{entryType};
 ghost use Rattle.terms.specs.Compare.{byteUnder, under};
 ghost use Rattle.equality.specs.Equal.{argsSame, headsSame, placesSame, Identity};
 use terms::Head;
+use terms::UNTYPED;
 use terms::args_no;
 use terms::digit;
 use terms::form_no;
@@ -47,7 +49,7 @@ fn same_head(p: &[u8], x: Head, q: &[u8], y: Head) -> bool
     let form = form_no(x);
     let count = args_no(x);
     ((form == form_no(y)) & (main_no(x) == main_no(y)))
-        & ((!(form == 2) | (region(p, region_no(x)) == region(q, region_no(y))))
+        & ((!((form == 2) | (form == 11)) | (region(p, region_no(x)) == region(q, region_no(y))))
             & ((count == args_no(y)) & same_args(p, word_no(x), q, word_no(y), count)))
 }
 
@@ -111,4 +113,15 @@ pub fn equal_under(f: &[u8], n: usize, a: usize, b: usize, q: &[u8]) -> bool
 {
     let id = identity();
     same(f, n, a, &id, b, q)
+}
+
+// Whether the type of a region, entry a of record 8, is entry b with the regions q put in: the region types of a call.
+pub fn types_equal(f: &[u8], n: usize, a: usize, b: usize, q: &[u8]) -> bool
+    requires { ⌜ Terms (now f) n ⌝ }
+    ensures { λ r. ⌜ r ≡ does (decTree (entryType (now (f .entry)) a) (sub (under (now (q .entry))) (entryType (now (f .entry)) b))) ⌝ }
+{
+    if (a == UNTYPED) | (b == UNTYPED) {
+        return a == b;
+    }
+    equal_under(f, n, a, b, q)
 }

@@ -134,6 +134,7 @@ pub fn term_written(
             Head::Int(_) => put(subs, spots, at, c, [0u8; 8], off),
             Head::Ptr(_, _) => put(subs, spots, at, c, to, off),
             Head::Struct(_, _, _) => {}
+            Head::Untyped(_, _) => put(subs, spots, at, c, to, off),
         },
     }
 }

@@ -1,19 +1,19 @@
 -- Refusal 6 as the code tests it: document 01, "6 function: a register or return that is not primitive; a region type, register or
 -- return using regions beyond its scope; function 0 ..". Each test is the decision's answer. Assumes nothing.
 use mathlib.Core.Path.{_≡_, refl, sym, ap, ap₂, _∙_}
-use mathlib.Core.Bool.{Bool, not, _&&_, _||_, and-assoc}
+use mathlib.Core.Bool.{Bool, true, false, cond, not, _&&_, _||_, and-assoc}
 use Prim.Native.Nat.{ℕ}
 use lib.Dec.{eqb}
 use Rattle.words.specs.First.{allBelow}
 use Rattle.words.specs.Decide.{does}
-use Rattle.rules.specs.Types.{int, decTree, decUses, decPrimitive}
+use Rattle.rules.specs.Types.{variable, Tree, int, bytes, decTree, decUses, decPrimitive}
 use Rattle.rules.specs.Module.{Function, Module, regions}
 use Rattle.rules.specs.WellTyped.{scopeOf, decFunction, decEntry}
 use Rattle.rules.specs.Verdict.{functionTest}
 use Rattle.terms.specs.Compare.{does-map, does-both, does-nat}
 use Rattle.words.specs.Bytes.{Bytes}
-use Rattle.rules.specs.File.{recordOf, returnOf, parametersOf}
-use Rattle.rules.specs.Decode.{moduleOf, functionOf, startOf}
+use Rattle.rules.specs.File.{recordOf, returnOf, parametersOf, untypedMark}
+use Rattle.rules.specs.Decode.{regionTypeOf, moduleOf, functionOf, startOf}
 use Rattle.functions.specs.Functions.{functionAt, function-at, registerTerm, regionTerm, scopeIn}
 use Rattle.functions.specs.Does.{does-all, does-imp, all-and}
 
@@ -72,10 +72,20 @@ function-test m g = sym (does-both _ _ ∙ ap₂ _&&_ (sym (declared-is (m .func
 
 -- ---- by the records of the function with record 7 at h
 
+-- untyped bytes use no region
+uses-entry : (most v : ℕ) (T : Tree variable) → eqb v untypedMark || does (decUses most T) ≡ does (decUses most (cond (eqb v untypedMark) bytes T))
+unfolding decUses
+uses-entry most v T = go (eqb v untypedMark)
+  where
+    go : (b : Bool) → b || does (decUses most T) ≡ does (decUses most (cond b bytes T))
+    go true = refl
+    go false = refl
+
 module _ (f : Bytes) (h : ℕ) where
-  pub region-fits : (i : ℕ) → does (decUses (scopeIn (recordOf f h) (recordOf f h .a) i) (moduleOf f .term (regionTerm f h i))) ≡ regionFits (functionAt f h) i
-  unfolding regionFits functionAt functionOf scopeOf scopeIn moduleOf regionTerm
-  region-fits i = refl
+  pub region-fits : (i : ℕ) → let v = regionTerm f h i in
+      eqb v untypedMark || does (decUses (scopeIn (recordOf f h) (recordOf f h .a) i) (moduleOf f .term v)) ≡ regionFits (functionAt f h) i
+  unfolding regionFits functionAt functionOf scopeOf scopeIn moduleOf regionTerm regionTypeOf
+  region-fits i = uses-entry (scopeIn (recordOf f h) (recordOf f h .a) i) (regionTerm f h i) (moduleOf f .term (regionTerm f h i))
 
   pub register-fits : (a : ℕ) → does (decPrimitive (moduleOf f .term (registerTerm f h a))) && does (decUses (scopeIn (recordOf f h) (parametersOf (recordOf f h)) a) (moduleOf f .term (registerTerm f h a))) ≡ registerFits (functionAt f h) a
   unfolding registerFits functionAt functionOf scopeOf scopeIn moduleOf registerTerm

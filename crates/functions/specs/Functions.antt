@@ -19,6 +19,7 @@ use Rattle.walk.specs.Tables.{startsOf, start-below}
 use Rattle.walk.specs.Code.{registers-far, skip-far}
 use Rattle.typing.specs.Walk.{skip, skip-suc, place-at}
 use Rattle.terms.specs.Extents.{Counted}
+use Rattle.terms.specs.Readers.{entryType}
 
 -- what refusals 1 to 4 have established of file f: n terms, k structs, c functions, and where the functions start
 pub record Known (f : Bytes) (n k c : ℕ) (heads : List ℕ) : Type 0 where
@@ -36,10 +37,11 @@ placeLimit = 4096
 unfoldable pub functionAt : Bytes → ℕ → Function
 functionAt f h = functionOf f (whole f .starts) (treesOf f (whole f .walk .terms)) h
 
--- the terms of its registers and regions, by number
+-- the terms of its registers, by number
 unfoldable pub registerTerm : Bytes → ℕ → ℕ → ℕ
 registerTerm f h i = entryOf (recordOf f (registersAt f h + i / mostEntries)) (i % mostEntries)
 
+-- the entries of its regions in record 8: a term, or 255
 unfoldable pub regionTerm : Bytes → ℕ → ℕ → ℕ
 regionTerm f h i = entryOf (recordOf f (h + 1)) i
 
@@ -92,7 +94,7 @@ module _ (f : Bytes) (h : ℕ) where
   unfolding functionAt functionOf moduleOf registerTerm
   register-at i = refl
 
-  pub region-at : (i : ℕ) → functionAt f h .regionType i ≡ moduleOf f .term (regionTerm f h i)
+  pub region-at : (i : ℕ) → functionAt f h .regionType i ≡ entryType f (regionTerm f h i)
   unfolding functionAt functionOf moduleOf regionTerm
   region-at i = refl
 

@@ -39,7 +39,7 @@ module _ (x : Record) where
 
   memory-not : isLast (memoryOf x) ≡ false
   unfolding memoryOf decLast decEither ℕ-discrete
-  memory-not = not-last 23 _ _ refl (not-last 24 _ _ refl (not-last 25 _ _ refl (not-last 26 _ _ refl (not-last 27 _ _ refl refl))))
+  memory-not = not-last 23 _ _ refl (not-last 24 _ _ refl (not-last 25 _ _ refl (not-last 26 _ _ refl (not-last 27 _ _ refl (not-last 28 _ _ refl (not-last 36 _ _ refl (not-last 37 _ _ refl (not-last 38 _ _ refl refl))))))))
 
   other-kind : (x .kind ≡ 31 → ⊥) → (x .kind ≡ 34 → ⊥) → ends (x .kind) ≡ false
   other-kind n m = neither-of (ne-eqb (x .kind) 31 n) (ne-eqb (x .kind) 34 m)
@@ -62,6 +62,7 @@ module _ (x : Record) where
   instruction-ends y p q =
       group-split (λ (g : Group). isLast (byGroup g x (callOf x y p q)) ≡ ends (x .kind)) (x .kind)
       (λ o. arithmetic-not ∙ sym (other-kind (λ e. ⊎-elim (λ a. omega arith) (λ a. omega arith) o) (λ e. ⊎-elim (λ a. omega arith) (λ a. omega arith) o)))
+      (λ l h. memory-not ∙ sym (other-kind (λ e. omega arith) (λ e. omega arith)))
       (λ l h. memory-not ∙ sym (other-kind (λ e. omega arith) (λ e. omega arith))) (λ l h. control-ends (callOf x y p q) refl l h)
 
 pub record-ends : (f : Bytes) (r : ℕ) → isLast (instructionIn f r) ≡ ends (recordOf f r .kind)

@@ -11,6 +11,7 @@ use crate::readers::region_term;
 use crate::readers::register_term;
 use rules::Record;
 use rules::limits::CALLEES;
+use terms::UNTYPED;
 
 // The regions that entry j of a list may use, whose first n may use the region parameters only.
 fn scope_in(x: Record, n: usize, j: usize) -> usize
@@ -23,7 +24,7 @@ fn scope_in(x: Record, n: usize, j: usize) -> usize
     }
 }
 
-// The type of region i uses its scope.
+// The type of region i uses its scope; an untyped one uses none.
 fn region_fits(f: &[u8], n: usize, h: usize, i: usize) -> bool
     requires { ⌜ Terms (now f) n ⌝ ∗ ⌜ h < placeLimit ⌝ }
     ensures { λ b. ⌜ b ≡ regionFits (functionAt (now (f .entry)) h) i ⌝ }
@@ -31,7 +32,7 @@ fn region_fits(f: &[u8], n: usize, h: usize, i: usize) -> bool
     let x = walk::file::record_at(f, h);
     let most = scope_in(x, x.a as usize, i);
     let t = region_term(f, h, i);
-    terms::uses(f, n, t, most)
+    (t == UNTYPED) | terms::uses(f, n, t, most)
 }
 
 // Register a is primitive and uses its scope.

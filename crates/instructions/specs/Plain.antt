@@ -9,7 +9,7 @@ use lib.Dec.{ltb, eqb}
 use borrow.Author.Tests.{ltb-true, eqb-true}
 use Rattle.words.specs.Bytes.{Bytes}
 use Rattle.words.specs.Decide.{does, Each, none, more}
-use Rattle.rules.specs.Types.{variable, Variable, region, Tree, ptr, arr, struct, form, inner, regionOf, sub, decTree, Uses, in-int, in-ptr, in-arr, in-struct}
+use Rattle.rules.specs.Types.{variable, Variable, region, Tree, ptr, arr, struct, rawPtr, form, inner, regionOf, sub, decTree, Uses, in-int, in-ptr, in-arr, in-struct, in-rawPtr, in-bytes}
 use Rattle.rules.specs.Module.{Module, Function, regions}
 use Rattle.rules.specs.Flat.{flat, decRun, decSame}
 use Rattle.terms.specs.Compare.{under, byteUnder, under-is}
@@ -52,6 +52,8 @@ plain in-int = refl
 plain (in-ptr {T = T} {r = r} h u) = ap₂ {C = Tree variable} ptr (plain u) (own r h)
 plain (in-arr {m = m} u) = ap {B = Tree variable} (arr m) (plain u)
 plain (in-struct {N = N} u) = ap {B = Tree variable} (struct N) (owns u)
+plain (in-rawPtr {m = m} {r = r} h) = ap {B = Tree variable} (rawPtr m) (own r h)
+plain in-bytes = refl
 
 target-uses : {n : ℕ} {T : Tree variable} {r : Variable} → Uses n (ptr T r) → Uses n T
 target-uses (in-ptr h u) = u

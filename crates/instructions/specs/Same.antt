@@ -1,23 +1,28 @@
 -- The same primitives, as kinds 27 and 28 ask for them and as the code decides them: as many, and the run from the first one on, which
 -- may be a remembered one. Assumes nothing.
-use mathlib.Core.Path.{_≡_, refl, sym, ap, ap₂, _∙_}
-use mathlib.Core.Bool.{Bool, false}
+use mathlib.Core.Path.{_≡_, refl, sym, ap, ap₂, _∙_, subst}
+use mathlib.Core.Bool.{Bool, false, not, _&&_}
 use mathlib.Core.List.{List, [], _∷_, map}
 use Prim.Native.Nat.{ℕ, _≤_, _<_}
+use native.Mathlib.Decide.{ℕ-discrete}
 use native.Mathlib.Omega.{arith}
-use lib.Dec.{ltb}
+use lib.Dec.{ltb, eqb}
 use lib.ListN.{length}
 use lib.Seq.{take-all}
-use borrow.Author.Tests.{lt-ltb, ltb-true}
+use borrow.Author.Tests.{lt-ltb, ltb-true, eq-eqb, ne-eqb}
 use Rattle.words.specs.Bytes.{Bytes}
 use Rattle.words.specs.Choose.{false-by, bool-same}
 use Rattle.words.specs.Decide.{does, does-true, true-does}
-use Rattle.rules.specs.Types.{RegionKind, variable, sub}
-use Rattle.rules.specs.Flat.{Placed, Layout, count, distance, moved, subLayout, Run, decRun, Same, decSame}
+use Rattle.rules.specs.File.{untypedMark}
+use Rattle.rules.specs.Types.{RegionKind, variable, Tree, bytes, sub}
+use Rattle.rules.specs.Flat.{Placed, Layout, count, distance, moved, subLayout, Run, decRun, Same, decSame, flat}
 use Rattle.rules.specs.Decode.{moduleOf}
 use Rattle.layout.specs.Prims.{moved-zero, count-sub, subLayout-size}
-use Rattle.layout.specs.Flat.{distance-zero}
+use Rattle.layout.specs.Flat.{flat-bytes, distance-zero}
+use Rattle.layout.specs.Pointers.{no-same}
 use Rattle.terms.specs.Heads.{placeOf}
+use Rattle.terms.specs.Readers.{entryType, entry-term, entry-bytes}
+use Rattle.terms.specs.Plain.{plain-sub, plain-term, plain-fields}
 use Rattle.terms.specs.Compare.{under}
 use Rattle.terms.specs.declared.Extent.{Extent}
 use Rattle.positions.specs.Table.{Table, termLayout, entryAt}
@@ -75,12 +80,28 @@ module _ (f : Bytes) (n s : ℕ) (tab : List ℕ) (h : Table f n s tab) (t a : �
 
   pub first-zero : 0 < count (layoutOf f t) → distance (layoutOf f t) 0 ≡ 0
   first-zero m =
-      distance-zero (moduleOf f) (sub (under {k = variable} themselves) (moduleOf f .term t))
+      distance-zero (moduleOf f) (plain-fields f) (sub (under {k = variable} themselves) (moduleOf f .term t))
+      (plain-sub (under {k = variable} themselves) (moduleOf f .term t) (plain-term f t))
       (let c = ap (λ (L : Layout variable). count L) layout-is in
       let d = count-sub (under {k = variable} themselves) (termLayout f s a) in
       omega (arith, h .sized a l (omega arith), ap (λ (L : Layout variable). L .size) (sym layout-is), subLayout-size (under {k = variable} themselves) (termLayout f s a)))
 
 module _ (f : Bytes) (u t : ℕ) where
+  -- of an entry of record 8: an untyped region has no primitives
+  pub same-entry : not (eqb t untypedMark) && samePrims f u t ≡ does (decSame (layoutOf f u) (flat (moduleOf f) (sub (under themselves) (entryType f t))))
+  unfolding samePrims sub
+  same-entry = go (ℕ-discrete t untypedMark)
+    where
+      like : Tree variable → Bool
+      like T = does (decSame (layoutOf f u) (flat (moduleOf f) (sub (under themselves) T)))
+
+      none : false ≡ like bytes
+      none = sym (false-by (λ e. no-same (layoutOf f u) (subst (λ (L : Layout variable). Same (layoutOf f u) L) (flat-bytes (moduleOf f)) (does-true (decSame (layoutOf f u) (flat (moduleOf f) bytes)) e))))
+
+      go : Dec (t ≡ untypedMark) → not (eqb t untypedMark) && samePrims f u t ≡ like (entryType f t)
+      go (yes e) = ap (λ (b : Bool). not b && samePrims f u t) (eq-eqb t untypedMark e) ∙ none ∙ ap like (sym (entry-bytes f t e))
+      go (no n) = ap (λ (b : Bool). not b && samePrims f u t) (ne-eqb t untypedMark n) ∙ ap like (sym (entry-term f t n))
+
   pub same-own : u ≡ t → (c : ℕ) → c ≡ count (layoutOf f u) → ltb 0 c ≡ samePrims f u t
   unfolding samePrims
   same-own q c is = ap (ltb 0) is ∙ same-itself (layoutOf f u) ∙ ap (λ (x : ℕ). does (decSame (layoutOf f u) (layoutOf f x))) q

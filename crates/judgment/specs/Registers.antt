@@ -1,6 +1,6 @@
 -- What a typing rule asks of a function's registers, as tests that the code makes, and how each reads. Document 01, "Typing the
 -- instructions". Assumes nothing.
-use mathlib.Core.Path.{_≡_, refl, sym, ap, _∙_}
+use mathlib.Core.Path.{_≡_, refl, sym, ap, _∙_, subst}
 use mathlib.Core.Bool.{Bool, true, false, _&&_}
 use mathlib.Core.Logic.{_↔_}
 use Prim.Native.Nat.{ℕ, _<_}
@@ -8,12 +8,13 @@ use native.Mathlib.Omega.{arith}
 use lib.Dec.{ltb, eqb}
 use Rattle.words.specs.Choose.{and-reads, lt-reads, eq-reads, does-same}
 use Rattle.words.specs.Decide.{does, does-true}
-use Rattle.rules.specs.Types.{variable, Variable, region, Tree, int, ptr, arr, struct, form, numberOf, inner, regionOf, decTree}
-use Rattle.rules.specs.Module.{Function}
-use Rattle.rules.specs.Typing.{_⊢_∶_}
+use Rattle.rules.specs.Types.{variable, Variable, region, Tree, int, ptr, arr, struct, rawPtr, bytes, form, numberOf, inner, regionOf, decTree}
+use Rattle.rules.specs.Module.{Function, regions}
+use Rattle.rules.specs.Typing.{_⊢_∶_, Untyped}
 use Rattle.typing.specs.Tests.{true-does}
 use Rattle.words.specs.Bytes.{Bytes}
 use Rattle.rules.specs.Decode.{moduleOf}
+use Rattle.terms.specs.Readers.{entryType}
 use Rattle.functions.specs.Functions.{functionAt, registerTerm, regionTerm, register-at, region-at}
 
 -- ---- joints
@@ -40,30 +41,45 @@ int-of (int w) e = refl
 int-of (ptr T r) e = absurd (omega arith)
 int-of (arr n T) e = absurd (omega arith)
 int-of (struct N rs) e = absurd (omega arith)
+int-of (rawPtr n r) e = absurd (omega arith)
+int-of bytes e = absurd (omega arith)
 
 pub ptr-of : (T : Tree variable) → form T ≡ 2 → T ≡ ptr (inner T) (regionOf T)
 ptr-of (int w) e = absurd (omega arith)
 ptr-of (ptr T r) e = refl
 ptr-of (arr n T) e = absurd (omega arith)
 ptr-of (struct N rs) e = absurd (omega arith)
+ptr-of (rawPtr n r) e = absurd (omega arith)
+ptr-of bytes e = absurd (omega arith)
 
 pub arr-of : (T : Tree variable) → form T ≡ 3 → T ≡ arr (numberOf T) (inner T)
 arr-of (int w) e = absurd (omega arith)
 arr-of (ptr T r) e = absurd (omega arith)
 arr-of (arr n T) e = refl
 arr-of (struct N rs) e = absurd (omega arith)
+arr-of (rawPtr n r) e = absurd (omega arith)
+arr-of bytes e = absurd (omega arith)
+
+pub raw-of : (T : Tree variable) → form T ≡ 11 → T ≡ rawPtr (numberOf T) (regionOf T)
+raw-of (int w) e = absurd (omega arith)
+raw-of (ptr T r) e = absurd (omega arith)
+raw-of (arr n T) e = absurd (omega arith)
+raw-of (struct N rs) e = absurd (omega arith)
+raw-of (rawPtr n r) e = refl
+raw-of bytes e = absurd (omega arith)
 
 pub same-region : (r s : Variable) → r .number ≡ s .number → r ≡ s
 same-region r s e = ap region e
 
--- ---- the terms that the code has for registers and regions
+-- ---- the entries that the code has for registers and regions
 
 module _ (f : Bytes) (h : ℕ) where
   pub register-is : {t : ℕ} (a : ℕ) → t ≡ registerTerm f h a → moduleOf f .term t ≡ functionAt f h .registerType a
   register-is a e = ap (λ (t : ℕ). moduleOf f .term t) e ∙ sym (register-at f h a)
 
-  pub region-is : {t : ℕ} (i : ℕ) → t ≡ regionTerm f h i → moduleOf f .term t ≡ functionAt f h .regionType i
-  region-is i e = ap (λ (t : ℕ). moduleOf f .term t) e ∙ sym (region-at f h i)
+  -- a region's is a term, or 255
+  pub region-is : {t : ℕ} (i : ℕ) → t ≡ regionTerm f h i → entryType f t ≡ functionAt f h .regionType i
+  region-is i e = ap (entryType f) e ∙ sym (region-at f h i)
 
 -- ---- registers
 
@@ -72,13 +88,21 @@ module _ (F : Function) where
   unfoldable pub isRegister : ℕ → Bool
   isRegister a = ltb a (F .registers)
 
-  -- an integer, a pointer, the integer of w bytes
+  -- an integer, a pointer, an untyped pointer
   unfoldable pub isInteger : ℕ → Bool
   isInteger a = isRegister a && eqb (form (F .registerType a)) 1
 
   unfoldable pub isPointer : ℕ → Bool
   isPointer a = isRegister a && eqb (form (F .registerType a)) 2
 
+  unfoldable pub isUntyped : ℕ → Bool
+  isUntyped a = isRegister a && eqb (form (F .registerType a)) 11
+
+  -- an untyped pointer into a region that is in scope and untyped
+  unfoldable pub intoBytes : ℕ → Bool
+  intoBytes a = isUntyped a && (ltb (regionOf (F .registerType a) .number) (regions F) && does (decTree (F .regionType (regionOf (F .registerType a) .number)) bytes))
+
+  -- the integer of w bytes
   unfoldable pub hasWidth : ℕ → ℕ → Bool
   hasWidth w a = isRegister a && does (decTree (F .registerType a) (int w))
 
@@ -109,6 +133,22 @@ module _ (F : Function) where
   pointer-reads a = read-as (and-reads (register-reads a) (eq-reads (form (F .registerType a)) 2))
       (λ h. (h .0, ptr-of (F .registerType a) (h .1)))
       (λ h. (h .0, ap form (h .1)))
+
+  pub untyped-reads : (a : ℕ) → (isUntyped a ≡ true) ↔ (F ⊢ a ∶ rawPtr (numberOf (F .registerType a)) (regionOf (F .registerType a)))
+  unfolding isUntyped
+  untyped-reads a = read-as (and-reads (register-reads a) (eq-reads (form (F .registerType a)) 11))
+      (λ h. (h .0, raw-of (F .registerType a) (h .1)))
+      (λ h. (h .0, ap form (h .1)))
+
+  abbrev pub IntoBytes : ℕ → Type 0
+  IntoBytes a = (n : ℕ) × ((r : Variable) × ((F ⊢ a ∶ rawPtr n r) × Untyped F r))
+
+  pub bytes-reads : (a : ℕ) → (intoBytes a ≡ true) ↔ IntoBytes a
+  unfolding intoBytes
+  bytes-reads a = read-as
+      (and-reads (untyped-reads a) (and-reads (lt-reads (regionOf (F .registerType a) .number) (regions F)) (does-reads (decTree (F .regionType (regionOf (F .registerType a) .number)) bytes))))
+      (λ h. (numberOf (F .registerType a), (regionOf (F .registerType a), (h .0, h .1))))
+      (λ h. let p = h .1 .1 .0 in ((p .0, raw-of (F .registerType a) (ap form (p .1))), subst (λ (r : Variable). Untyped F r) (sym (ap regionOf (p .1))) (h .1 .1 .1)))
 
   pub width-reads : (w a : ℕ) → (hasWidth w a ≡ true) ↔ (F ⊢ a ∶ int w)
   unfolding hasWidth

@@ -8,13 +8,13 @@ use lib.Dec.{ltb, leb, eqb}
 use borrow.Author.Tests.{lt-ltb, le-ltb, ne-eqb}
 use Rattle.words.specs.Choose.{lt-reads, le-reads, eq-reads, and-reads, or-reads}
 use Rattle.words.specs.Decide.{does}
-use Rattle.rules.specs.Types.{variable, Variable, Tree, int, ptr, form, numberOf, inner, regionOf, decTree}
-use Rattle.rules.specs.Module.{Module, Function, regions, constant, copy, operate, zeroExtend, signExtend, address, check, field, index, load, store, new, free, input, output, jump, branch, return}
+use Rattle.rules.specs.Types.{variable, Variable, Tree, int, ptr, arr, struct, rawPtr, bytes, form, numberOf, inner, regionOf, decTree}
+use Rattle.rules.specs.Module.{Module, Function, regions, constant, copy, operate, zeroExtend, signExtend, address, check, field, index, load, store, new, free, input, output, jump, branch, return, newBytes, loadByte, storeByte, checkBytes}
 use Rattle.rules.specs.Flat.{Run, Same, decRun, decSame, flat}
 use Rattle.rules.specs.Operands.{signedQuotient, lastOperation}
-use Rattle.rules.specs.Typing.{_⊢_∶_, Typed, t-constant, t-copy, t-operate, t-quotient, t-compare, t-zeroExtend, t-signExtend, t-address, t-checkInteger, t-checkPointer, t-field, t-index, t-load, t-store, t-new, t-free, t-input, t-output, t-jump, t-branch, t-return}
+use Rattle.rules.specs.Typing.{_⊢_∶_, AnAddress, Typed, t-constant, t-copy, t-operate, t-quotient, t-compare, t-zeroExtend, t-signExtend, t-address, t-addressBytes, t-checkInteger, t-checkPointer, t-field, t-index, t-load, t-store, t-new, t-free, t-input, t-output, t-jump, t-branch, t-return, t-newBytes, t-loadByte, t-storeByte, t-checkBytes}
 use Rattle.rules.specs.Decision.{decTyped}
-use Rattle.judgment.specs.Registers.{does-reads, decided, ptr-of, arr-of, isRegister, isInteger, isPointer, hasWidth, sameTypes, pointsTo, together, register-reads, integer-reads, pointer-reads, width-reads, same-reads, points-reads, together-reads}
+use Rattle.judgment.specs.Registers.{does-reads, decided, ptr-of, arr-of, raw-of, isRegister, isInteger, isPointer, isUntyped, intoBytes, IntoBytes, hasWidth, sameTypes, pointsTo, together, register-reads, integer-reads, pointer-reads, untyped-reads, bytes-reads, width-reads, same-reads, points-reads, together-reads}
 
 -- operation o on b gives the type of a
 unfoldable pub operated : Function → ℕ → ℕ → ℕ → Bool
@@ -107,12 +107,23 @@ module _ (m : Module) (F : Function) where
   pointer : {a : ℕ} {T : Tree variable} {r : Variable} → F ⊢ a ∶ ptr T r → F ⊢ a ∶ ptr (inner (F .registerType a)) (regionOf (F .registerType a))
   pointer {a} p = (p .0, ptr-of (F .registerType a) (ap form (p .1)))
 
-  -- "21 pointer b to i32 a"
-  pub address-test : (a b : ℕ) → isPointer F b && hasWidth F 4 a ≡ does (decTyped m F (address a b))
-  address-test a b = decided (decTyped m F (address a b)) (and-reads (pointer-reads F b) (width-reads F 4 a)) (λ h. t-address (h .0) (h .1)) back
+  untyped : {a n : ℕ} {r : Variable} → F ⊢ a ∶ rawPtr n r → F ⊢ a ∶ rawPtr (numberOf (F .registerType a)) (regionOf (F .registerType a))
+  untyped {a} p = (p .0, raw-of (F .registerType a) (ap form (p .1)))
+
+  -- "21 pointer b to i32 a"; "Kind 21 takes untyped pointers as well"
+  pub address-test : (a b : ℕ) → (isPointer F b || isUntyped F b) && hasWidth F 4 a ≡ does (decTyped m F (address a b))
+  address-test a b = decided (decTyped m F (address a b)) (and-reads (or-reads (pointer-reads F b) (untyped-reads F b)) (width-reads F 4 a)) make back
     where
-      back : Typed m F (address a b) → (F ⊢ b ∶ ptr (inner (F .registerType b)) (regionOf (F .registerType b))) × (F ⊢ a ∶ int 4)
-      back (t-address p q) = (pointer p, q)
+      Facts : Type 0
+      Facts = ((F ⊢ b ∶ ptr (inner (F .registerType b)) (regionOf (F .registerType b))) ⊎ (F ⊢ b ∶ rawPtr (numberOf (F .registerType b)) (regionOf (F .registerType b)))) × (F ⊢ a ∶ int 4)
+
+      make : Facts → Typed m F (address a b)
+      make (inl p, q) = t-address p q
+      make (inr p, q) = t-addressBytes p q
+
+      back : Typed m F (address a b) → Facts
+      back (t-address p q) = (inl (pointer p), q)
+      back (t-addressBytes p q) = (inr (untyped p), q)
 
   -- "22 check: i32 or pointer b becomes pointer a"
   pub check-test : (a b : ℕ) → isPointer F a && (hasWidth F 4 b || isPointer F b) ≡ does (decTyped m F (check a b))
@@ -242,3 +253,48 @@ module _ (m : Module) (F : Function) where
     where
       back : Typed m F (return a) → F ⊢ a ∶ F .result
       back (t-return p) = p
+
+  -- document 02, P3: "Kind 36 makes a new object .. into register a"
+  pub new-bytes-test : (a : ℕ) → intoBytes F a ≡ does (decTyped m F (newBytes a))
+  new-bytes-test a = decided (decTyped m F (newBytes a)) (bytes-reads F a) (λ h. t-newBytes (h .1 .1 .0) (h .1 .1 .1)) back
+    where
+      back : Typed m F (newBytes a) → IntoBytes F a
+      back (t-newBytes {n = n} {r = r} p u) = (n, (r, (p, u)))
+
+  -- "Kind 37 loads i8 a through b at i32 offset c; kind 38 stores i8 b through a at offset c"
+  pub load-byte-test : (a b c : ℕ) → intoBytes F b && (hasWidth F 4 c && hasWidth F 1 a) ≡ does (decTyped m F (loadByte a b c))
+  load-byte-test a b c = decided (decTyped m F (loadByte a b c)) (and-reads (bytes-reads F b) (and-reads (width-reads F 4 c) (width-reads F 1 a)))
+      (λ h. t-loadByte (h .0 .1 .1 .0) (h .0 .1 .1 .1) (h .1 .0) (h .1 .1)) back
+    where
+      back : Typed m F (loadByte a b c) → IntoBytes F b × ((F ⊢ c ∶ int 4) × (F ⊢ a ∶ int 1))
+      back (t-loadByte {n = n} {r = r} p u q s) = ((n, (r, (p, u))), (q, s))
+
+  pub store-byte-test : (a b c : ℕ) → intoBytes F a && (hasWidth F 4 c && hasWidth F 1 b) ≡ does (decTyped m F (storeByte a b c))
+  store-byte-test a b c = decided (decTyped m F (storeByte a b c)) (and-reads (bytes-reads F a) (and-reads (width-reads F 4 c) (width-reads F 1 b)))
+      (λ h. t-storeByte (h .0 .1 .1 .0) (h .0 .1 .1 .1) (h .1 .0) (h .1 .1)) back
+    where
+      back : Typed m F (storeByte a b c) → IntoBytes F a × ((F ⊢ c ∶ int 4) × (F ⊢ b ∶ int 1))
+      back (t-storeByte {n = n} {r = r} p u q s) = ((n, (r, (p, u))), (q, s))
+
+  -- "Kind 39 turns an i32 or any pointer b into untyped pointer a"
+  pub check-bytes-test : (a b : ℕ) → intoBytes F a && (hasWidth F 4 b || (isPointer F b || isUntyped F b)) ≡ does (decTyped m F (checkBytes a b))
+  check-bytes-test a b = decided (decTyped m F (checkBytes a b)) (and-reads (bytes-reads F a) (or-reads (width-reads F 4 b) (or-reads (pointer-reads F b) (untyped-reads F b)))) make back
+    where
+      From : Type 0
+      From = (F ⊢ b ∶ int 4) ⊎ ((F ⊢ b ∶ ptr (inner (F .registerType b)) (regionOf (F .registerType b))) ⊎ (F ⊢ b ∶ rawPtr (numberOf (F .registerType b)) (regionOf (F .registerType b))))
+
+      make : IntoBytes F a × From → Typed m F (checkBytes a b)
+      make (h, inl p) = t-checkBytes p refl (h .1 .1 .0) (h .1 .1 .1)
+      make (h, inr (inl p)) = t-checkBytes p tt (h .1 .1 .0) (h .1 .1 .1)
+      make (h, inr (inr p)) = t-checkBytes p tt (h .1 .1 .0) (h .1 .1 .1)
+
+      from : (T : Tree variable) → F ⊢ b ∶ T → AnAddress T → From
+      from (int w) p s = inl (p .0, p .1 ∙ ap int s)
+      from (ptr T r) p s = inr (inl (pointer p))
+      from (arr n T) p s = absurd s
+      from (struct N rs) p s = absurd s
+      from (rawPtr n r) p s = inr (inr (untyped p))
+      from bytes p s = absurd s
+
+      back : Typed m F (checkBytes a b) → IntoBytes F a × From
+      back (t-checkBytes {n = n} {r = r} {T = T} p s q u) = ((n, (r, (q, u))), from T p s)

@@ -9,20 +9,21 @@ use native.Mathlib.Omega.{arith}
 use lib.Dec.{eqb}
 use lib.ListN.{length, getD, set, replicate, length-set, length-replicate, getD-replicate}
 use lib.Seq.{getD-set-same, getD-set-other}
-use borrow.Author.Tests.{ne-eqb, eqb-true}
+use borrow.Author.Tests.{ne-eqb, eq-eqb, eqb-true}
 use Rattle.words.specs.Bytes.{Bytes}
+use Rattle.words.specs.Choose.{both, both-of}
 use Rattle.words.specs.Decide.{does}
-use Rattle.rules.specs.Types.{variable, Tree, int, ptr, arr, struct, form, numberOf, inner, regionOf, decTree}
+use Rattle.rules.specs.Types.{variable, Tree, int, form, numberOf, inner, regionOf, decTree}
 use Rattle.rules.specs.Decode.{moduleOf}
 use Rattle.terms.specs.declared.Head.{Head}
-use Rattle.terms.specs.declared.Head.the-variants.{Int, Ptr, Arr, Struct}
+use Rattle.terms.specs.declared.Head.the-variants.{Int, Ptr, Arr, Struct, Untyped}
 use Rattle.terms.specs.Heads.{placeOf, formNo, mainNo, treeAt}
 use Rattle.terms.specs.HeadLaws.{Fair}
 use Rattle.terms.specs.Extents.{Terms}
 use Rattle.terms.specs.ExtentLaws.{module-term}
-use Rattle.terms.specs.Compare.{does-map, does-nat}
+use Rattle.terms.specs.Compare.{tree-same}
 use Rattle.functions.specs.Functions.{functionAt}
-use Rattle.judgment.specs.Registers.{guarded, isRegister, isInteger, isPointer, hasWidth}
+use Rattle.judgment.specs.Registers.{guarded, int-of, isRegister, isInteger, isPointer, isUntyped, hasWidth}
 
 -- ---- a word
 
@@ -30,7 +31,8 @@ use Rattle.judgment.specs.Registers.{guarded, isRegister, isInteger, isP
 abbrev pub operands : ℕ
 operands = 256
 
--- the form of the type, 0 where there is no such register; the region of a pointer; the term; the term inside a pointer; the width of an integer
+-- the form of the type, 0 where there is no such register; the region of a pointer, typed or untyped; the term; the term inside a pointer;
+-- the width of an integer, the bytes of an untyped pointer
 abbrev pub word : ℕ → ℕ → ℕ → ℕ → ℕ → ℕ
 word kind region term target number = kind + 256 * (region + 256 * (term + 256 * (target + 256 * number)))
 
@@ -54,10 +56,11 @@ pub record Describes (f : Bytes) (h a e : ℕ) : Type 0 where
   pub register : not (eqb (kindIn e) 0) ≡ isRegister (functionAt f h) a
   pub integer : eqb (kindIn e) 1 ≡ isInteger (functionAt f h) a
   pub pointer : eqb (kindIn e) 2 ≡ isPointer (functionAt f h) a
+  pub untyped : eqb (kindIn e) 11 ≡ isUntyped (functionAt f h) a
   pub region : regionIn e ≡ regionOf (functionAt f h .registerType a) .number
   pub term : moduleOf f .term (termIn e) ≡ functionAt f h .registerType a
   pub target : form (functionAt f h .registerType a) ≡ 2 → moduleOf f .term (targetIn e) ≡ inner (functionAt f h .registerType a)
-  pub number : form (functionAt f h .registerType a) ≡ 1 → numberIn e ≡ numberOf (functionAt f h .registerType a)
+  pub number : form (functionAt f h .registerType a) ≢ 2 → numberIn e ≡ numberOf (functionAt f h .registerType a)
 
 -- a table of words, 0 where nothing is known
 pub record Described (f : Bytes) (h : ℕ) (types : List ℕ) : Type 0 where
@@ -72,43 +75,36 @@ digit-low k n l = omega arith
 pub digit-rest : (k n : ℕ) → k < 256 → (k + 256 * n) / 256 ≡ n
 digit-rest k n l = omega arith
 
-there : (b : Bool) (F : ℕ) → 0 < F → not (eqb (cond b F 0) 0) ≡ b
-there true F l = ap not (ne-eqb F 0 (λ e. omega arith))
-there false F l = refl
+there : (b : Bool) (F : ℕ) → F ≢ 0 → not (eqb (cond b F 0) 0) ≡ b
+there true F n = ap not (ne-eqb F 0 n)
+there false F n = refl
 
-one : (b : Bool) (F : ℕ) → eqb (cond b F 0) 1 ≡ b && eqb F 1
-one true F = refl
-one false F = refl
+-- the form is n, which is not 0
+is-form : (b : Bool) (F n : ℕ) → n ≢ 0 → eqb (cond b F 0) n ≡ b && eqb F n
+is-form true F n l = refl
+is-form false F n l = ne-eqb 0 n (λ e. l (sym e))
 
-two : (b : Bool) (F : ℕ) → eqb (cond b F 0) 2 ≡ b && eqb F 2
-two true F = refl
-two false F = refl
-
-form-some : (T : Tree variable) → 0 < form T
-form-some (int w) = omega arith
-form-some (ptr T r) = omega arith
-form-some (arr n T) = omega arith
-form-some (struct N rs) = omega arith
-
-pub head-few : (x : Head) → formNo x < 5
+pub head-few : (x : Head) → formNo x < 12
 head-few (Int w) = omega arith
 head-few (Ptr a r) = omega arith
 head-few (Arr n a) = omega arith
 head-few (Struct N n d) = omega arith
+head-few (Untyped n r) = omega arith
 
-pub kind-few : (b : Bool) {F : ℕ} → F < 5 → cond b F 0 < 5
+pub kind-few : (b : Bool) {F : ℕ} → F < 12 → cond b F 0 < 12
 kind-few true l = l
 kind-few false l = omega arith
 
 module _ (f : Bytes) (h a : ℕ) where
-  pub describes : {k r t i w e : ℕ} → k ≡ cond (isRegister (functionAt f h) a) (form (functionAt f h .registerType a)) 0 → k < 256
+  -- the register's type has a form, as every term has
+  pub describes : {k r t i w e : ℕ} → form (functionAt f h .registerType a) ≢ 0 → k ≡ cond (isRegister (functionAt f h) a) (form (functionAt f h .registerType a)) 0 → k < 256
       → r ≡ regionOf (functionAt f h .registerType a) .number → r < 256
       → moduleOf f .term t ≡ functionAt f h .registerType a → t < 256
       → (form (functionAt f h .registerType a) ≡ 2 → moduleOf f .term i ≡ inner (functionAt f h .registerType a)) → i < 256
-      → (form (functionAt f h .registerType a) ≡ 1 → w ≡ numberOf (functionAt f h .registerType a))
+      → (form (functionAt f h .registerType a) ≢ 2 → w ≡ numberOf (functionAt f h .registerType a))
       → e ≡ word k r t i w → Describes f h a e
-  unfolding isInteger isPointer
-  describes {k} {r} {t} {i} {w} {e} hk lk hr lr ht lt hi li hw he =
+  unfolding isInteger isPointer isUntyped
+  describes {k} {r} {t} {i} {w} {e} some hk lk hr lr ht lt hi li hw he =
       let F = functionAt f h in
       let T = F .registerType a in
       let n3 = i + 256 * w in
@@ -120,9 +116,10 @@ module _ (f : Bytes) (h a : ℕ) where
       let ei : targetIn e ≡ i = ap (λ (x : ℕ). x / 256 / 256 / 256 % 256) he ∙ ap (λ (x : ℕ). x / 256 / 256 % 256) (digit-rest k n1 lk) ∙ ap (λ (x : ℕ). x / 256 % 256) (digit-rest r n2 lr) ∙ ap (λ (x : ℕ). x % 256) (digit-rest t n3 lt) ∙ digit-low i w li in
       let ew : numberIn e ≡ w = ap (λ (x : ℕ). x / 256 / 256 / 256 / 256) he ∙ ap (λ (x : ℕ). x / 256 / 256 / 256) (digit-rest k n1 lk) ∙ ap (λ (x : ℕ). x / 256 / 256) (digit-rest r n2 lr) ∙ ap (λ (x : ℕ). x / 256) (digit-rest t n3 lt) ∙ digit-rest i w li in
       record {
-        register = ap (λ (x : ℕ). not (eqb x 0)) (ek ∙ hk) ∙ there (isRegister F a) (form T) (form-some T);
-        integer = ap (λ (x : ℕ). eqb x 1) (ek ∙ hk) ∙ one (isRegister F a) (form T);
-        pointer = ap (λ (x : ℕ). eqb x 2) (ek ∙ hk) ∙ two (isRegister F a) (form T);
+        register = ap (λ (x : ℕ). not (eqb x 0)) (ek ∙ hk) ∙ there (isRegister F a) (form T) some;
+        integer = ap (λ (x : ℕ). eqb x 1) (ek ∙ hk) ∙ is-form (isRegister F a) (form T) 1 (λ q. omega arith);
+        pointer = ap (λ (x : ℕ). eqb x 2) (ek ∙ hk) ∙ is-form (isRegister F a) (form T) 2 (λ q. omega arith);
+        untyped = ap (λ (x : ℕ). eqb x 11) (ek ∙ hk) ∙ is-form (isRegister F a) (form T) 11 (λ q. omega arith);
         region = er ∙ hr;
         term = ap (λ (x : ℕ). moduleOf f .term x) et ∙ ht;
         target = λ q. ap (λ (x : ℕ). moduleOf f .term x) ei ∙ hi q;
@@ -138,6 +135,7 @@ main-few n (Int w) g = omega arith
 main-few n (Ptr a r) g = omega arith
 main-few n (Arr c a) g = g .1
 main-few n (Struct N c d) g = let l = g .0 in omega arith
+main-few n (Untyped c r) g = g .0
 
 -- ---- a table made
 
@@ -154,11 +152,11 @@ described-more {f} {h} {types} a {e} l w d = record { long = length-set types a 
 -- ---- what the rules ask of a word
 
 integer-tree : (w : ℕ) (T : Tree variable) → eqb (form T) 1 && eqb (numberOf T) w ≡ does (decTree T (int w))
-unfolding decTree
-integer-tree w (int v) = sym (does-map _ _ (ℕ-discrete v w) ∙ does-nat v w)
-integer-tree w (ptr T r) = refl
-integer-tree w (arr n T) = refl
-integer-tree w (struct N rs) = refl
+integer-tree w T = sym (tree-same T (int w) (eqb (form T) 1 && eqb (numberOf T) w)
+    (λ e. both-of (eq-eqb (form T) 1 (ap form e)) (eq-eqb (numberOf T) w (ap numberOf e)))
+    (λ h.
+    let b = both (eqb (form T) 1) (eqb (numberOf T) w) h in
+    int-of T (eqb-true (form T) 1 (b .0)) ∙ ap int (eqb-true (numberOf T) w (b .1))))
 
 module _ {f : Bytes} {h a e : ℕ} (d : Describes f h a e) where
   pub width-in : (w : ℕ) → eqb (kindIn e) 1 && eqb (numberIn e) w ≡ hasWidth (functionAt f h) w a
@@ -167,7 +165,7 @@ module _ {f : Bytes} {h a e : ℕ} (d : Describes f h a e) where
       let T = functionAt f h .registerType a in
       ap (λ (b : Bool). b && eqb (numberIn e) w) (d .integer) ∙ and-assoc (isRegister (functionAt f h) a) (eqb (form T) 1) (eqb (numberIn e) w)
       ∙ ap (λ (b : Bool). isRegister (functionAt f h) a && b)
-      (guarded (eqb (form T) 1) (eqb (numberIn e) w) (eqb (numberOf T) w) (λ q. ap (λ (x : ℕ). eqb x w) (d .number (eqb-true (form T) 1 q)))
+      (guarded (eqb (form T) 1) (eqb (numberIn e) w) (eqb (numberOf T) w) (λ q. ap (λ (x : ℕ). eqb x w) (d .number (λ z. let i = eqb-true (form T) 1 q in omega arith)))
       ∙ integer-tree w T)
 
 -- the target of a pointer, and a register, whose terms are compared

@@ -13,6 +13,7 @@ ghost use Rattle.judgment.specs.Types.{Described};
 use crate::registers::has_width;
 use crate::registers::is_integer;
 use crate::registers::is_pointer;
+use crate::registers::is_untyped;
 use crate::registers::same_types;
 use crate::types::OPERANDS;
 use crate::types::entry;
@@ -120,12 +121,13 @@ pub fn sign_extend(
     is_integer(f, n, h, types, a) & is_integer(f, n, h, types, b)
 }
 
-// 21: pointer b to i32 a.
+// 21: pointer b, typed or untyped, to i32 a.
 pub fn address(f: &[u8], n: usize, h: usize, types: &[usize; OPERANDS], a: usize, b: usize) -> bool
     requires { ⌜ Terms (now f) n ⌝ ∗ ⌜ h < placeLimit ⌝ ∗ ⌜ Described (now f) h (now types) ⌝ }
     ensures { λ s. ⌜ s ≡ does (decTyped (moduleOf (now (f .entry))) (functionAt (now (f .entry)) h) (address a b)) ⌝ }
 {
-    is_pointer(f, n, h, types, b) & has_width(f, n, h, types, 4, a)
+    (is_pointer(f, n, h, types, b) | is_untyped(f, n, h, types, b))
+        & has_width(f, n, h, types, 4, a)
 }
 
 // 22: i32 or pointer b becomes pointer a.

@@ -53,7 +53,7 @@ fn call_region(f: &[u8], n: usize, h: usize, e: usize, to: &[u8], x: Record, i: 
     let v = terms::digit(x.d as usize, i);
     let s = region_term(f, h, v);
     let t = region_term(f, e, i);
-    in_scope(f, h, v) & equality::equal_under(f, n, s, t, to)
+    in_scope(f, h, v) & equality::types_equal(f, n, s, t, to)
 }
 
 fn call_regions(f: &[u8], n: usize, h: usize, e: usize, to: &[u8], x: Record) -> bool

@@ -5,7 +5,7 @@ ghost use Rattle.rules.specs.Types.{regionOf};
 ghost use Rattle.terms.specs.Extents.{Terms};
 ghost use Rattle.functions.specs.Functions.{placeLimit, functionAt};
 ghost use Rattle.judgment.specs.Types.{Described};
-ghost use Rattle.judgment.specs.Registers.{isRegister, isInteger, isPointer, hasWidth, sameTypes, pointsTo, together};
+ghost use Rattle.judgment.specs.Registers.{isRegister, isInteger, isPointer, isUntyped, hasWidth, sameTypes, pointsTo, together};
 use crate::types::OPERANDS;
 use crate::types::entry;
 use crate::types::kind_in;
@@ -47,6 +47,14 @@ pub fn is_pointer(f: &[u8], n: usize, h: usize, types: &[usize; OPERANDS], a: us
 {
     let e = entry(f, n, h, types, a);
     kind_in(e) == 2
+}
+
+pub fn is_untyped(f: &[u8], n: usize, h: usize, types: &[usize; OPERANDS], a: usize) -> bool
+    requires { ⌜ Terms (now f) n ⌝ ∗ ⌜ h < placeLimit ⌝ ∗ ⌜ Described (now f) h (now types) ⌝ }
+    ensures { λ b. ⌜ b ≡ isUntyped (functionAt (now (f .entry)) h) a ⌝ }
+{
+    let e = entry(f, n, h, types, a);
+    kind_in(e) == 11
 }
 
 // a is the integer of w bytes.

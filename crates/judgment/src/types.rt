@@ -22,7 +22,7 @@ pub fn kind_in(e: usize) -> usize
     e % 256
 }
 
-// The region, where it is a pointer.
+// The region, where it is a pointer, typed or untyped.
 pub fn region_in(e: usize) -> usize
     ensures { λ r. ⌜ r ≡ regionIn e ⌝ }
 {
@@ -43,7 +43,7 @@ pub fn target_in(e: usize) -> usize
     e / 256 / 256 / 256 % 256
 }
 
-// The width, where it is an integer.
+// The width, where it is an integer; the bytes, where it is an untyped pointer.
 pub fn number_in(e: usize) -> usize
     ensures { λ r. ⌜ r ≡ numberIn e ⌝ }
 {

@@ -11,7 +11,7 @@ use borrow.Author.Tests.{ne-eqb}
 use Rattle.words.specs.Bytes.{Bytes}
 use Rattle.words.specs.Choose.{lt-or-le}
 use Rattle.words.specs.FirstLaws.{first-is}
-use Rattle.rules.specs.Types.{RegionKind, variable, Region, Variable, region, Tree, int, ptr, arr, struct, sub, arg, nowhere, form, numberOf, inner}
+use Rattle.rules.specs.Types.{RegionKind, variable, Region, Variable, region, Tree, int, ptr, arr, struct, rawPtr, bytes, sub, arg, nowhere, form, numberOf, inner}
 use Rattle.rules.specs.Flat.{Placed, at, off, Layout, count, none, copies, placedIn, subLayout, flatWith, layouts, flat, distance, positionAt, size}
 use Rattle.rules.specs.Decode.{moduleOf}
 use Rattle.layout.specs.Types.{sub-sub}
@@ -42,6 +42,8 @@ with-keeps : {j k : RegionKind} (ls : List (Layout variable)) (σ : Region j →
 unfolding flatWith sub subLayout
 with-keeps ls σ h (int w) = refl
 with-keeps ls σ h (ptr T r) = refl
+with-keeps ls σ h (rawPtr n r) = refl
+with-keeps ls σ h bytes = refl
 with-keeps ls σ h (arr n T) = ap (copies n) (with-keeps ls σ h T) ∙ sym (subLayout-copies σ n (flatWith ls T))
 with-keeps {j} {k} ls σ h (struct N rs) =
     ap (λ (l : List (Placed k)). record { size = getD ls N none .size; prims = l }) (through (getD ls N none .prims))

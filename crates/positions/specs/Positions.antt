@@ -18,7 +18,7 @@ use Rattle.rules.specs.Decode.{moduleOf}
 use Rattle.layout.specs.Types.{sub-sub}
 use Rattle.layout.specs.Prims.{nth, moved-moved, placed-moved, count-packed, count-copiesOf, size-copiesOf, beside-sized, beside-none, copies-sized, copies-fit, subLayout-size, count-sub}
 use Rattle.layout.specs.Runs.{nth-left, nth-right, nth-copies as nth-copy, nth-sub}
-use Rattle.terms.specs.declared.Head.the-variants.{Int, Ptr, Arr}
+use Rattle.terms.specs.declared.Head.the-variants.{Int, Ptr, Arr, Untyped}
 use Rattle.terms.specs.Heads.{digit, argsOf, treeAt, headOf, grow}
 use Rattle.terms.specs.HeadLaws.{tree-step}
 use Rattle.terms.specs.Extents.{Terms, fieldPlace, fieldCount, firsts}
@@ -128,6 +128,10 @@ module _ (f : Bytes) (k p off i : ℕ) (to : Bytes) where
   pub single-ptr : (a r : ℕ) → headOf f p ≡ Ptr a r → termLayout f k p ≡ single 4 (treeAt f p)
   unfolding grow flatWith
   single-ptr a r e = layout-at f k p (Ptr a r) e ∙ ap (single 4) (sym (tree-step f p ∙ ap (grow (treeAt f)) e))
+
+  pub single-untyped : (n r : ℕ) → headOf f p ≡ Untyped n r → termLayout f k p ≡ single 4 (treeAt f p)
+  unfolding grow flatWith
+  single-untyped n r e = layout-at f k p (Untyped n r) e ∙ ap (single 4) (sym (tree-step f p ∙ ap (grow (treeAt f)) e))
 
   -- a struct, whatever led to it
   module _ (N c d : ℕ) (is : termLayout f k p ≡ subLayout (arg (argsOf d c)) (structLayout f N)) where

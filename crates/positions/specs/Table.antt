@@ -14,7 +14,7 @@ use Rattle.rules.specs.Decode.{moduleOf}
 use Rattle.rules.specs.declared.Record.{Record}
 use Rattle.terms.specs.declared.Extent.{Extent}
 use Rattle.terms.specs.declared.Head.{Head}
-use Rattle.terms.specs.declared.Head.the-variants.{Int, Ptr, Arr, Struct}
+use Rattle.terms.specs.declared.Head.the-variants.{Int, Ptr, Arr, Struct, Untyped}
 use Rattle.terms.specs.Heads.{digit, argsOf, treeAt, headOf}
 use Rattle.terms.specs.Extents.{Terms, Counted, termExtent}
 use Rattle.terms.specs.Compare.{under}
@@ -98,6 +98,7 @@ NoStruct (Int w) = Unit {0}
 NoStruct (Ptr a r) = Unit {0}
 NoStruct (Arr n a) = Unit {0}
 NoStruct (Struct N n d) = ⊥
+NoStruct (Untyped n r) = Unit {0}
 
 -- the core of the term at place p
 abbrev pub CoreIs : Bytes → ℕ → Core → Type 0
@@ -110,6 +111,7 @@ Few (Int w) = Unit {0}
 Few (Ptr a r) = Unit {0}
 Few (Arr n a) = Unit {0}
 Few (Struct N n d) = n ≤ mostRegionParams
+Few (Untyped n r) = Unit {0}
 
 -- ---- tables
 

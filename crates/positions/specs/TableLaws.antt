@@ -15,7 +15,7 @@ use Rattle.words.specs.Bytes.{Bytes, AllBytes}
 use Rattle.words.specs.Choose.{cond-lt, cond-nlt, cond-split, true-not-false, lt-or-le}
 use Rattle.rules.specs.Limits.{mostRegionParams}
 use Rattle.rules.specs.File.{recordOf}
-use Rattle.rules.specs.Types.{RegionKind, variable, Region, Tree, int, ptr, arr, struct, arg}
+use Rattle.rules.specs.Types.{RegionKind, variable, Region, Tree, int, ptr, arr, struct, rawPtr, bytes as noTerm, arg}
 use Rattle.rules.specs.Module.{Module}
 use Rattle.rules.specs.Flat.{Layout, count, none, beside, copiesOf, copies, placedIn, subLayout, flatWith, layouts, flat}
 use Rattle.rules.specs.Decode.{moduleOf}
@@ -24,11 +24,11 @@ use Rattle.layout.specs.Prims.{count-packed, count-copiesOf, size-copiesOf, bes
 use Rattle.layout.specs.Flat.{struct-known}
 use Rattle.terms.specs.declared.Extent.{Extent}
 use Rattle.terms.specs.declared.Head.{Head}
-use Rattle.terms.specs.declared.Head.the-variants.{Int, Ptr, Arr, Struct}
+use Rattle.terms.specs.declared.Head.the-variants.{Int, Ptr, Arr, Struct, Untyped}
 use Rattle.terms.specs.Heads.{placeOf, argsOf, treeAt, headFrom, headOf, grow}
 use Rattle.terms.specs.HeadLaws.{tree-step, head-none, place-le, Fair, fair}
 use Rattle.terms.specs.Extents.{Terms, Counted, over, plus, times, Small, termExtent, fieldPlace, fieldCount, firsts, soFar}
-use Rattle.terms.specs.ExtentLaws.{cap-same, plus-over, plus-fits, times-over, times-fits, term-int, term-ptr, term-arr, term-known, term-unknown, struct-all, so-begin, so-more, layout-unknown, fields-firsts, module-fields, module-term}
+use Rattle.terms.specs.ExtentLaws.{cap-same, plus-over, plus-fits, times-over, times-fits, term-int, term-ptr, term-untyped, term-arr, term-known, term-unknown, struct-all, so-begin, so-more, layout-unknown, fields-firsts, module-fields, module-term}
 use Rattle.positions.specs.Table.{termLayout, structLayout, exactOf, InRange, Ranged, coreNo, coreFrom, Fits, pack, unpack, entryAt, coreAt, Bare, NoStruct, CoreIs, Few, Filled, Known, Table}
 use Rattle.positions.specs.declared.Core.{Core}
 use Rattle.positions.specs.declared.Core.the-variants.{Term, Fields}
@@ -66,12 +66,16 @@ Solid (int w) = 0 < w
 Solid (ptr T r) = Unit {0}
 Solid (arr n T) = Solid T
 Solid (struct N rs) = Unit {0}
+Solid (rawPtr n r) = Unit {0}
+Solid noTerm = Unit {0}
 
 module _ (ls : List (Layout variable)) (known : (N : ℕ) → Neat (getD ls N none)) where
   neat-with : (T : Tree variable) → Solid T → Neat (flatWith ls T)
   unfolding flatWith
   neat-with (int w) s = (s, omega arith)
   neat-with (ptr T r) s = (omega arith, omega arith)
+  neat-with (rawPtr n r) s = (omega arith, omega arith)
+  neat-with noTerm s = (omega arith, omega arith)
   neat-with (arr n T) s = neat-copies n (flatWith ls T) (neat-with T s)
   neat-with (struct N rs) s = neat-sub (arg rs) (getD ls N none) (known N)
 
@@ -87,13 +91,15 @@ SolidHead (Int w) = 0 < w
 SolidHead (Ptr a r) = Unit {0}
 SolidHead (Arr n a) = Unit {0}
 SolidHead (Struct N n d) = n ≤ mostRegionParams
+SolidHead (Untyped n r) = Unit {0}
 
 solid-from : (t : ℕ) (x : Record) → InRange x → SolidHead (headFrom t x)
 unfolding headFrom SolidHead
 solid-from t x h =
     cond-split SolidHead (eqb (x .kind) 1) _ _ (λ e. h .0 (eqb-true (x .kind) 1 e))
     (λ _. cond-split SolidHead (eqb (x .kind) 2) _ _ (λ _. tt)
-    (λ e. cond-split SolidHead (eqb (x .kind) 3) _ _ (λ _. tt) (λ _. h .1 (λ z. true-not-false (eq-eqb (x .kind) 2 z) e))))
+    (λ e. cond-split SolidHead (eqb (x .kind) 3) _ _ (λ _. tt)
+    (λ _. cond-split SolidHead (eqb (x .kind) 11) _ _ (λ _. tt) (λ _. h .1 (λ z. true-not-false (eq-eqb (x .kind) 2 z) e)))))
 
 module _ (f : Bytes) (n : ℕ) (range : Ranged f n) where
   solid-head : (p : ℕ) → p ≤ n → SolidHead (headOf f p)
@@ -107,6 +113,7 @@ module _ (f : Bytes) (n : ℕ) (range : Ranged f n) where
   few-of (Ptr a r) s = tt
   few-of (Arr c a) s = tt
   few-of (Struct N c d) s = s
+  few-of (Untyped c r) s = tt
 
   pub few-args : (p : ℕ) → p ≤ n → Few (headOf f p)
   few-args p h = few-of (headOf f p) (solid-head p h)
@@ -118,6 +125,7 @@ module _ (f : Bytes) (n : ℕ) (range : Ranged f n) where
     solid-grow p (Ptr a r) e s below = tt
     solid-grow p (Arr c a) e s below = below a (e .0)
     solid-grow p (Struct N c d) e s below = tt
+    solid-grow p (Untyped c r) e s below = tt
 
     solid-below : (b p : ℕ) → p < b → p ≤ n → Solid (treeAt f p)
     solid-below zero p l h = absurd (omega arith)
@@ -264,6 +272,7 @@ module _ (f : Bytes) (bytes : AllBytes f) (n : ℕ) (is : Terms f n) where
   head-limit : (k p : ℕ) (x : Head) → headOf f p ≡ x → Fair p x → 256 < termExtent f k p .size → termExtent f k p ≡ over
   head-limit k p (Int w) e g h = absurd (omega (arith, g, h, ap (λ (x : Extent). x .size) (term-int f k p w e)))
   head-limit k p (Ptr a r) e g h = absurd (omega (arith, h, ap (λ (x : Extent). x .size) (term-ptr f k p a r e)))
+  head-limit k p (Untyped c r) e g h = absurd (omega (arith, h, ap (λ (x : Extent). x .size) (term-untyped f k p c r e)))
   head-limit k p (Arr c a) e g h = let z = term-arr f k p c a e in z ∙ times-limit c (termExtent f k a) (subst (λ (x : Extent). 256 < x .size) z h)
   head-limit k p (Struct N c d) e g h = ⊎-elim
       (λ l. let z = term-known f k p N c d e l ∙ struct-all f n is N in z ∙ fields-limit N (fieldCount f n N) (subst (λ (x : Extent). 256 < x .size) z h))
@@ -304,6 +313,8 @@ with-more : (m : Module) (k K : ℕ) → k ≤ K → (T : Tree variable) → fla
 unfolding flatWith
 with-more m k K h (int w) s = refl
 with-more m k K h (ptr T r) s = refl
+with-more m k K h (rawPtr n r) s = refl
+with-more m k K h noTerm s = refl
 with-more m k K h (arr n T) s = copies-more n (flatWith (layouts m k) T) (flatWith (layouts m K) T) s (with-more m k K h T)
 with-more m k K h (struct N rs) s = ⊎-elim
     (λ l. ap (subLayout (arg rs)) (struct-known m k N l ∙ sym (struct-known m K N (omega arith))))

@@ -219,6 +219,7 @@ fn bare(f: &[u8], p: usize) -> usize
         Head::Int(_) => p,
         Head::Ptr(_, _) => p,
         Head::Struct(_, _, _) => p,
+        Head::Untyped(_, _) => p,
     }
 }
 
@@ -241,6 +242,7 @@ fn innermost(f: &[u8], n: usize, number: usize, to: [u8; 4]) -> Inner
             Head::Int(_) => {}
             Head::Ptr(_, _) => {}
             Head::Arr(_, _) => {}
+            Head::Untyped(_, _) => {}
         }
     }
     Inner {
@@ -263,6 +265,7 @@ fn core_of(f: &[u8], n: usize, p: usize) -> Core
         Head::Int(_) => Core::Term(c),
         Head::Ptr(_, _) => Core::Term(c),
         Head::Arr(_, _) => Core::Term(c),
+        Head::Untyped(_, _) => Core::Term(c),
     }
 }
 
@@ -326,6 +329,7 @@ fn term_prim(
             Head::Int(_) => Primitive { off, place: c, to },
             Head::Ptr(_, _) => Primitive { off, place: c, to },
             Head::Struct(_, _, _) => Primitive { off, place: c, to },
+            Head::Untyped(_, _) => Primitive { off, place: c, to },
         },
     }
 }

@@ -1,4 +1,5 @@
--- Runs as the code decides them: a run is there where as many primitives follow and each is the same. Assumes nothing.
+-- Runs as the code decides them: a run is there where as many primitives follow and each is the same; and where an untyped pointer's bytes
+-- lie. Assumes nothing.
 use mathlib.Core.Path.{_≡_, refl, sym, ap, ap₂, _∙_}
 use mathlib.Core.Logic.{inr, ⊎-elim}
 use mathlib.Core.Bool.{Bool, true, false, _&&_}
@@ -7,23 +8,27 @@ use native.Mathlib.Decide.{ℕ-discrete, decLt, decLe}
 use native.Mathlib.Nat.{mul-comm}
 use native.Mathlib.Omega.{arith}
 use lib.Dec.{eqb, ltb, leb}
-use borrow.Author.Tests.{eq-eqb, ne-eqb, eqb-true, lt-ltb, le-ltb, le-leb, lt-leb}
+use borrow.Author.Tests.{eq-eqb, ne-eqb, eqb-true, lt-ltb, le-ltb, le-leb, lt-leb, leb-true}
 use Rattle.words.specs.Bytes.{Bytes}
 use Rattle.words.specs.Choose.{false-by, true-not-false, lt-or-le, bool-same, both, both-of, and-no, does-lt, does-le}
 use Rattle.words.specs.First.{first}
 use Rattle.words.specs.Decide.{does, does-true, decBoth, true-does}
-use Rattle.rules.specs.Types.{RegionKind, variable, live, Tree, sub, decTree}
+use Rattle.rules.specs.Types.{RegionKind, variable, live, Tree, int, integer, form, sub, decTree}
+use Rattle.rules.specs.File.{untypedMark}
 use Rattle.rules.specs.Module.{Module}
-use Rattle.rules.specs.Flat.{Placed, at, off, Layout, count, moved, subLayout, flat, distance, decPlaced, decRun, positionAt, size}
+use Rattle.rules.specs.Flat.{Placed, at, off, Layout, count, oneByte, moved, subLayout, flat, distance, decPlaced, decRun, positionAt, size}
 use Rattle.rules.specs.Decode.{moduleOf}
 use Rattle.layout.specs.Prims.{nth, count-sub}
 use Rattle.rules.specs.Limits.{pages, pageBytes, memoryBytes}
-use Rattle.rules.specs.Heap.{HeapTyping, decStands}
-use Rattle.layout.specs.Flat.{size-sub}
+use Rattle.rules.specs.Heap.{HeapTyping, decStands, decInUntyped}
+use Rattle.layout.specs.Flat.{flat-bytes, size-prim, size-sub}
 use Rattle.layout.specs.Runs.{run-matches, matches-run, distance-sub}
 use Rattle.terms.specs.Heads.{placeOf, treeAt}
-use Rattle.terms.specs.Extents.{Counted}
-use Rattle.terms.specs.Compare.{under, sub-same, does-map, does-both, does-nat}
+use Rattle.terms.specs.HeadLaws.{place-out}
+use Rattle.terms.specs.Extents.{Terms, Counted}
+use Rattle.terms.specs.ExtentLaws.{module-term}
+use Rattle.terms.specs.Readers.{entryType, entry-term, entry-bytes, entry-form}
+use Rattle.terms.specs.Compare.{under, sub-same, form-sub, does-map, does-both, does-nat}
 use Rattle.equality.specs.Equal.{placesSame}
 use Rattle.positions.specs.Table.{termLayout}
 use Rattle.positions.specs.Positions.{Keeps, Agree, under-agree, placedOf, Found}
@@ -147,14 +152,29 @@ module _ (f : Bytes) (n s : ℕ) (h : Counted f n s) (u : ℕ) (p hp : Bytes) (k
 
 abbrev pub RunAtIs : Bytes → ℕ → Bytes → ℕ → ℕ → Bytes → Bool → Type 0
 RunAtIs f u p o t q r =
-    (r ≡ does (decRun (flat (moduleOf f) (sub (under {k = variable} p) (moduleOf f .term u))) (positionAt (flat (moduleOf f) (sub (under {k = variable} p) (moduleOf f .term u))) o) (flat (moduleOf f) (sub (under q) (moduleOf f .term t)))))
-    × (r ≡ does (decRun (flat (moduleOf f) (sub (under {k = live} p) (moduleOf f .term u))) (positionAt (flat (moduleOf f) (sub (under {k = live} p) (moduleOf f .term u))) o) (flat (moduleOf f) (sub (under q) (moduleOf f .term t)))))
+    (r ≡ does (decRun (flat (moduleOf f) (sub (under {k = variable} p) (entryType f u))) (positionAt (flat (moduleOf f) (sub (under {k = variable} p) (entryType f u))) o) (flat (moduleOf f) (sub (under q) (moduleOf f .term t)))))
+    × (r ≡ does (decRun (flat (moduleOf f) (sub (under {k = live} p) (entryType f u))) (positionAt (flat (moduleOf f) (sub (under {k = live} p) (entryType f u))) o) (flat (moduleOf f) (sub (under q) (moduleOf f .term t)))))
 
-pub run-at-is : (f : Bytes) (u : ℕ) (p : Bytes) → Keeps p → (o t : ℕ) (q : Bytes) (d : ℕ) → d ≡ positionAt (flat (moduleOf f) (moduleOf f .term u)) o → (r : Bool) → RunIs f u p d t q r → RunAtIs f u p o t q r
-run-at-is f u p keeps o t q d e r h = (
+pub run-at-is : (f : Bytes) (u : ℕ) → (u ≡ untypedMark → ⊥) → (p : Bytes) → Keeps p → (o t : ℕ) (q : Bytes) (d : ℕ) → d ≡ positionAt (flat (moduleOf f) (moduleOf f .term u)) o → (r : Bool) → RunIs f u p d t q r → RunAtIs f u p o t q r
+run-at-is f u typed p keeps o t q d e r h = rw (entry-term f u typed) (
   h .0 ∙ ap (λ (x : ℕ). does (decRun (flat (moduleOf f) (sub (under {k = variable} p) (moduleOf f .term u))) x (flat (moduleOf f) (sub (under q) (moduleOf f .term t))))) (e ∙ sym (position-under variable f p keeps u o)),
   h .1 ∙ ap (λ (x : ℕ). does (decRun (flat (moduleOf f) (sub (under {k = live} p) (moduleOf f .term u))) x (flat (moduleOf f) (sub (under q) (moduleOf f .term t))))) (e ∙ sym (position-under live f p keeps u o)),
 )
+
+-- the layout of an untyped region's type: one byte without primitives
+pub untyped-layout : (k : RegionKind) (f : Bytes) (u : ℕ) (p : Bytes) → u ≡ untypedMark → flat (moduleOf f) (sub (under {k = k} p) (entryType f u)) ≡ oneByte
+untyped-layout k f u p e = ap (λ (T : Tree variable). flat (moduleOf f) (sub (under {k = k} p) T)) (entry-bytes f u e) ∙ (unfold sub in flat-bytes (moduleOf f))
+
+-- no run stands there
+pub run-at-none : (f : Bytes) (u : ℕ) → u ≡ untypedMark → (p : Bytes) (o t : ℕ) (q : Bytes) → RunAtIs f u p o t q false
+run-at-none f u e p o t q = (none variable, none live)
+  where
+    none : (j : RegionKind) → false ≡ does (decRun (flat (moduleOf f) (sub (under {k = j} p) (entryType f u))) (positionAt (flat (moduleOf f) (sub (under {k = j} p) (entryType f u))) o) (flat (moduleOf f) (sub (under q) (moduleOf f .term t))))
+    none j =
+        let L : Layout j = flat (moduleOf f) (sub (under {k = j} p) (entryType f u)) in
+        let M : Layout j = flat (moduleOf f) (sub (under q) (moduleOf f .term t)) in
+        let c : count L ≡ 0 = ap (λ (N : Layout j). count N) (untyped-layout j f u p e) in
+        ⊎-elim (λ l. run-short L (positionAt L o) M (omega arith)) (λ l. run-none L (positionAt L o) M (omega arith)) (lt-or-le 0 (count M))
 
 -- ---- addresses
 
@@ -164,13 +184,13 @@ inPage L x M = ltb 0 (L .size) && (leb (L .size * suc (x / L .size)) pageBytes &
 
 abbrev pub InPageIs : Bytes → ℕ → Bytes → ℕ → ℕ → Bytes → Bool → Type 0
 InPageIs f u p x t q r =
-    (r ≡ inPage (flat (moduleOf f) (sub (under {k = variable} p) (moduleOf f .term u))) x (flat (moduleOf f) (sub (under q) (moduleOf f .term t))))
-    × (r ≡ inPage (flat (moduleOf f) (sub (under {k = live} p) (moduleOf f .term u))) x (flat (moduleOf f) (sub (under q) (moduleOf f .term t))))
+    (r ≡ inPage (flat (moduleOf f) (sub (under {k = variable} p) (entryType f u))) x (flat (moduleOf f) (sub (under q) (moduleOf f .term t))))
+    × (r ≡ inPage (flat (moduleOf f) (sub (under {k = live} p) (entryType f u))) x (flat (moduleOf f) (sub (under q) (moduleOf f .term t))))
 
 -- for every heap typing in which the page of a has this owner and the region this type
 abbrev pub StandsIs : Bytes → ℕ → ℕ → ℕ → Bytes → ℕ → ℕ → Bytes → Bool → Type 0
 StandsIs f r owner u p a t q b =
-    (W : HeapTyping) → W .owner (a / pageBytes) ≡ owner → W .type r ≡ sub (under p) (moduleOf f .term u)
+    (W : HeapTyping) → W .owner (a / pageBytes) ≡ owner → W .type r ≡ sub (under p) (entryType f u)
     → b ≡ does (decStands (moduleOf f) W (sub (under q) (moduleOf f .term t)) r a)
 
 module _ {k : RegionKind} (L : Layout k) (x : ℕ) (M : Layout k) (sz : ℕ) (is : sz ≡ L .size) where
@@ -193,9 +213,16 @@ module _ {k : RegionKind} (L : Layout k) (x : ℕ) (M : Layout k) (sz : ℕ) (is
       e ∙ ap (λ (s : ℕ). does (decRun L (positionAt L (x % s)) M)) is
       ∙ sym (ap₂ (λ (a b : Bool). a && (b && does (decRun L (positionAt L (x % L .size)) M))) (lt-ltb 0 (L .size) (omega arith)) (le-leb (L .size * suc (x / L .size)) pageBytes (omega arith)))
 
--- sizes do not depend on regions
-pub size-under : (k : RegionKind) (f p : Bytes) (t : ℕ) → size (moduleOf f) (moduleOf f .term t) ≡ size (moduleOf f) (sub (under {k = k} p) (moduleOf f .term t))
-size-under k f p t = sym (size-sub (under {k = k} p) (moduleOf f) (moduleOf f .term t))
+-- sizes do not depend on regions; what is not there reads as i8, of one byte as an untyped region's place is
+pub size-under : (k : RegionKind) (f p : Bytes) (n : ℕ) → Terms f n → (u : ℕ) → size (moduleOf f) (moduleOf f .term u) ≡ size (moduleOf f) (sub (under {k = k} p) (entryType f u))
+size-under k f p n is u = go (ℕ-discrete u untypedMark)
+  where
+    past : u ≡ untypedMark → moduleOf f .term u ≡ int 1
+    past e = module-term f n is u ∙ ap (treeAt f) (place-out n u (omega (arith, is .few))) ∙ (unfold treeAt in refl)
+
+    go : Dec (u ≡ untypedMark) → size (moduleOf f) (moduleOf f .term u) ≡ size (moduleOf f) (sub (under {k = k} p) (entryType f u))
+    go (yes e) = ap (λ (T : Tree variable). size (moduleOf f) T) (past e) ∙ size-prim (moduleOf f) (int 1) integer ∙ sym (ap (λ (L : Layout k). L .size) (untyped-layout k f u p e))
+    go (no d) = sym (size-sub (under {k = k} p) (moduleOf f) (moduleOf f .term u)) ∙ ap (λ (T : Tree variable). size (moduleOf f) (sub (under {k = k} p) T)) (sym (entry-term f u d))
 
 stands-test : (m : Module) (W : HeapTyping) (T U : Tree live) (r a : ℕ) → W .type r ≡ U
     → does (decStands m W T r a) ≡ (ltb (a / pageBytes) pages && eqb (W .owner (a / pageBytes)) (suc r)) && inPage (flat m U) (a % pageBytes) (flat m T)
@@ -215,9 +242,9 @@ stands-test m W T U r a e =
 module _ (f : Bytes) (r owner u : ℕ) (p : Bytes) (a t : ℕ) (q : Bytes) where
   stands-no : (ltb (a / pageBytes) pages && eqb owner (suc r) ≡ false) → StandsIs f r owner u p a t q false
   stands-no h W own ty =
-      sym (stands-test (moduleOf f) W (sub (under q) (moduleOf f .term t)) (sub (under p) (moduleOf f .term u)) r a ty
-      ∙ ap (λ (x : ℕ). (ltb (a / pageBytes) pages && eqb x (suc r)) && inPage (flat (moduleOf f) (sub (under {k = live} p) (moduleOf f .term u))) (a % pageBytes) (flat (moduleOf f) (sub (under q) (moduleOf f .term t)))) own
-      ∙ ap (λ (b : Bool). b && inPage (flat (moduleOf f) (sub (under {k = live} p) (moduleOf f .term u))) (a % pageBytes) (flat (moduleOf f) (sub (under q) (moduleOf f .term t)))) h)
+      sym (stands-test (moduleOf f) W (sub (under q) (moduleOf f .term t)) (sub (under p) (entryType f u)) r a ty
+      ∙ ap (λ (x : ℕ). (ltb (a / pageBytes) pages && eqb x (suc r)) && inPage (flat (moduleOf f) (sub (under {k = live} p) (entryType f u))) (a % pageBytes) (flat (moduleOf f) (sub (under q) (moduleOf f .term t)))) own
+      ∙ ap (λ (b : Bool). b && inPage (flat (moduleOf f) (sub (under {k = live} p) (entryType f u))) (a % pageBytes) (flat (moduleOf f) (sub (under q) (moduleOf f .term t)))) h)
 
   pub stands-far : memoryBytes ≤ a → StandsIs f r owner u p a t q false
   stands-far h = stands-no (ap (λ (b : Bool). b && eqb owner (suc r)) (le-ltb (a / pageBytes) pages (omega arith)))
@@ -227,7 +254,35 @@ module _ (f : Bytes) (r owner u : ℕ) (p : Bytes) (a t : ℕ) (q : Bytes) where
 
   pub stands-in : a < memoryBytes → owner ≡ suc r → (b : Bool) → InPageIs f u p (a % pageBytes) t q b → StandsIs f r owner u p a t q b
   stands-in l e b h W own ty =
-      sym (stands-test (moduleOf f) W (sub (under q) (moduleOf f .term t)) (sub (under p) (moduleOf f .term u)) r a ty
-      ∙ ap₂ (λ (x y : Bool). (x && y) && inPage (flat (moduleOf f) (sub (under {k = live} p) (moduleOf f .term u))) (a % pageBytes) (flat (moduleOf f) (sub (under q) (moduleOf f .term t))))
+      sym (stands-test (moduleOf f) W (sub (under q) (moduleOf f .term t)) (sub (under p) (entryType f u)) r a ty
+      ∙ ap₂ (λ (x y : Bool). (x && y) && inPage (flat (moduleOf f) (sub (under {k = live} p) (entryType f u))) (a % pageBytes) (flat (moduleOf f) (sub (under q) (moduleOf f .term t))))
       (lt-ltb (a / pageBytes) pages (omega arith)) (eq-eqb (W .owner (a / pageBytes)) (suc r) (own ∙ e))
       ∙ sym (h .1))
+
+-- ---- untyped pointers
+
+-- for every file and every heap typing in which the page of a has this owner, and the region the type that entry u says
+abbrev pub UntypedIs : ℕ → ℕ → ℕ → ℕ → ℕ → Bool → Type 0
+UntypedIs r owner u a size b =
+    (W : HeapTyping) (f p : Bytes) → W .owner (a / pageBytes) ≡ owner → W .type r ≡ sub (under p) (entryType f u) → b ≡ does (decInUntyped W size r a)
+
+module _ (r owner u a size : ℕ) where
+  pub untyped-far : memoryBytes ≤ a → UntypedIs r owner u a size false
+  untyped-far h W f p own ty = sym (false-by (λ e. let w = does-true (decInUntyped W size r a) e .inside in omega arith))
+
+  pub untyped-other : (owner ≡ suc r → ⊥) → UntypedIs r owner u a size false
+  untyped-other h W f p own ty = sym (false-by (λ e. h (sym own ∙ does-true (decInUntyped W size r a) e .own)))
+
+  pub untyped-typed : (u ≡ untypedMark → ⊥) → UntypedIs r owner u a size false
+  untyped-typed h W f p own ty = sym (false-by (λ e.
+      entry-form f u h (sym (form-sub (under {k = live} p) (entryType f u)) ∙ ap form (sym ty ∙ does-true (decInUntyped W size r a) e .untyped))))
+
+  pub untyped-in : a < memoryBytes → owner ≡ suc r → u ≡ untypedMark → UntypedIs r owner u a size (leb (a % pageBytes + size) pageBytes)
+  untyped-in l e z W f p own ty = bool-same (leb (a % pageBytes + size) pageBytes) (does (decInUntyped W size r a))
+      (λ h. true-does (decInUntyped W size r a) (record {
+        inside = omega arith;
+        own = own ∙ e;
+        untyped = ty ∙ ap (sub (under p)) (entry-bytes f u z) ∙ (unfold sub in refl);
+        fits = leb-true (a % pageBytes + size) pageBytes h;
+      }))
+      (λ h. le-leb (a % pageBytes + size) pageBytes (does-true (decInUntyped W size r a) h .fits))

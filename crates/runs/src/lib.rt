@@ -1,4 +1,5 @@
-// Runs of primitives: document 01, "Flat types" and "The machine"; what kinds 22, 23, 27 and 28 and the state test ask of types. All ask
+// Runs of primitives, and where an untyped pointer's bytes lie: document 01, "Flat types" and "The machine", and document 02, P3; what kinds
+// 22, 23, 27, 28 and 39 and the state test ask of types. All but the last ask
 // for the table of extents, and nothing of the file's contents. A substitution is lent as bytes, that of variable 0 first.
 ghost use mathlib.Core.Path.{_≡_};
 ghost use Prim.Native.Nat.{_+_, _<_, _≤_};
@@ -12,11 +13,12 @@ ghost use Rattle.terms.specs.Compare.{under};
 ghost use Rattle.positions.specs.Table.{Table, termLayout};
 ghost use Rattle.positions.specs.Positions.{Keeps, placedOf};
 ghost use Rattle.runs.specs.Entries.{Compared};
-ghost use Rattle.runs.specs.Runs.{RunAtIs, InPageIs, StandsIs};
+ghost use Rattle.runs.specs.Runs.{RunAtIs, InPageIs, StandsIs, UntypedIs};
 use flattening::ENTRIES;
 use positions::Primitive;
 use state::Machine;
 use terms::Live;
+use terms::UNTYPED;
 
 // Of so few primitives, a descent for each is cheaper than writing the terms out.
 const SHORT: usize = 2;
@@ -195,7 +197,7 @@ pub fn run_from(
     )
 }
 
-// Whether the run of term t under q stands at byte o of term u under p.
+// Whether the run of term t under q stands at byte o of the type u of a region, under p: none stands in an untyped one.
 pub fn run_at(
     f: &[u8],
     n: usize,
@@ -210,13 +212,16 @@ pub fn run_at(
     requires { ⌜ (Table (now f) n k (now tab)) × (length (now p) ≤ 8) × (length (now q) ≤ 8) ⌝ }
     ensures { λ r. ⌜ RunAtIs (now (f .entry)) u (now (p .entry)) o t (now (q .entry)) r ⌝ }
 {
+    if u == UNTYPED {
+        return false;
+    }
     let d = positions::position_at(f, n, k, u, o, tab);
     run_from(f, n, k, u, p, d, t, q, tab)
 }
 
 // ---- addresses
 
-// Whether the run of term t under q stands at byte x of a page whose objects are of term u under p, inside one object.
+// Whether the run of term t under q stands at byte x of a page whose objects are of type u under p, inside one object.
 pub fn in_page(
     f: &[u8],
     n: usize,
@@ -243,7 +248,7 @@ pub fn in_page(
 }
 
 // Kind 22, and a pointer that is not zero: whether address a is one of the run of term t under q in live region r, whose objects
-// are of term u under p. `owner` is the owner of the page of a.
+// are of type u under p. `owner` is the owner of the page of a.
 pub fn stands(
     f: &[u8],
     n: usize,
@@ -271,4 +276,26 @@ pub fn stands(
         return false;
     }
     in_page(f, n, k, u, p, (a % Machine::PAGE_BYTES) as usize, t, q, tab)
+}
+
+// An untyped pointer that is not zero: whether `size` bytes from address a on lie in one page of live region r, of type u, which is untyped.
+// `owner` is the owner of the page of a.
+pub fn in_untyped(r: Live, owner: u8, u: usize, a: u32, size: usize) -> bool
+    requires { ⌜ size < 4294967296 ⌝ }
+    ensures { λ b. ⌜ UntypedIs (r .0) owner u a size b ⌝ }
+{
+    let region = r.0;
+    if a >= Machine::MEMORY_BYTES {
+        return false;
+    }
+    if owner == 0 {
+        return false;
+    }
+    if owner - 1 != region {
+        return false;
+    }
+    if u != UNTYPED {
+        return false;
+    }
+    (a % Machine::PAGE_BYTES) as usize + size <= Machine::PAGE_BYTES as usize
 }

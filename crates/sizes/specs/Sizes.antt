@@ -22,7 +22,7 @@ use Rattle.rules.specs.WellTyped.{decCounts, decTerm, decStruct}
 use Rattle.rules.specs.Verdict.{termTest, structTest}
 use Rattle.typing.specs.Tests.{true-does}
 use Rattle.terms.specs.declared.Head.{Head}
-use Rattle.terms.specs.declared.Head.the-variants.{Int, Ptr, Arr, Struct}
+use Rattle.terms.specs.declared.Head.the-variants.{Int, Ptr, Arr, Struct, Untyped}
 use Rattle.terms.specs.Heads.{treeAt, grow, argsOf, digit, formNo, mainNo, argsNo}
 use Rattle.terms.specs.HeadLaws.{Fair}
 use Rattle.terms.specs.Readers.{Reads}
@@ -50,6 +50,7 @@ main-small n (Int w) e = omega arith
 main-small n (Ptr a r) e = omega arith
 main-small n (Arr c a) e = e .1
 main-small n (Struct N c d) e = let l = e .0 in omega arith
+main-small n (Untyped c r) e = e .0
 
 -- a field uses its struct's regions
 unfoldable pub fieldFits : Bytes → ℕ → ℕ → ℕ → Bool
@@ -72,6 +73,7 @@ module _ (f : Bytes) (n : ℕ) (is : Terms f n) where
   counts-grow (Int w) = refl
   counts-grow (Ptr a r) = refl
   counts-grow (Arr c a) = refl
+  counts-grow (Untyped c r) = refl
   counts-grow (Struct N c d) =
       sym (does-nat (length (argsOf d c)) (moduleOf f .arity N) ∙ ap₂ eqb (args-length d c) (arity-is N))
 

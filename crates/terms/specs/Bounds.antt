@@ -8,9 +8,9 @@ use native.Mathlib.Numerals.{add-one}
 use native.Mathlib.Omega.{arith}
 use Rattle.words.specs.Bytes.{Bytes, listFrom}
 use Rattle.words.specs.Decide.{Each, none, more}
-use Rattle.rules.specs.Types.{variable, Variable, region, Tree, int, ptr, arr, struct, Uses, in-int, in-ptr, in-arr, in-struct}
+use Rattle.rules.specs.Types.{variable, Variable, region, Tree, int, ptr, arr, struct, rawPtr, bytes, Uses, in-int, in-ptr, in-arr, in-struct, in-rawPtr, in-bytes}
 use Rattle.terms.specs.declared.Head.{Head}
-use Rattle.terms.specs.declared.Head.the-variants.{Int, Ptr, Arr, Struct}
+use Rattle.terms.specs.declared.Head.the-variants.{Int, Ptr, Arr, Struct, Untyped}
 use Rattle.terms.specs.Heads.{digit, argsOf, treeAt, headOf, grow, innerNo}
 use Rattle.terms.specs.HeadLaws.{tree-step}
 
@@ -24,6 +24,8 @@ bound (int w) = 0
 bound (ptr T r) = max (suc (r .number)) (bound T)
 bound (arr n T) = bound T
 bound (struct N rs) = boundOf rs
+bound (rawPtr n r) = suc (r .number)
+bound bytes = 0
 
 -- ---- a bound of n is what `Uses n` says
 
@@ -43,6 +45,8 @@ uses-bound n (int w) h = in-int
 uses-bound n (ptr T r) h = in-ptr {r = r} (omega arith) (uses-bound n T (omega arith))
 uses-bound n (arr m T) h = in-arr (uses-bound n T h)
 uses-bound n (struct N rs) h = in-struct (each-bound n rs h)
+uses-bound n (rawPtr m r) h = in-rawPtr {r = r} (omega arith)
+uses-bound n bytes h = in-bytes
 
 bound-uses : (n : ℕ) {T : Tree variable} → Uses n T → bound T ≤ n
 unfolding bound
@@ -50,6 +54,8 @@ bound-uses n in-int = omega arith
 bound-uses n (in-ptr {T = T} {r = r} h u) = let l = bound-uses n u in omega arith
 bound-uses n (in-arr u) = bound-uses n u
 bound-uses n (in-struct u) = bound-each n u
+bound-uses n (in-rawPtr {r = r} h) = omega arith
+bound-uses n in-bytes = omega arith
 
 pub bound-reads : (n : ℕ) (T : Tree variable) → (bound T ≤ n) ↔ Uses n T
 bound-reads n T = (uses-bound n T, λ u. bound-uses n u)
@@ -62,6 +68,7 @@ headBound (Int w) = 0
 headBound (Ptr a r) = suc r
 headBound (Arr n a) = 0
 headBound (Struct N n d) = boundOf (argsOf d n)
+headBound (Untyped n r) = suc r
 
 grow-bound : (f : Bytes) (h : Head) → bound (grow (treeAt f) h) ≡ max (headBound h) (bound (treeAt f (innerNo h)))
 unfolding grow bound treeAt
@@ -69,6 +76,7 @@ grow-bound f (Int w) = omega arith
 grow-bound f (Ptr a r) = refl
 grow-bound f (Arr n a) = omega arith
 grow-bound f (Struct N n d) = omega arith
+grow-bound f (Untyped n r) = omega arith
 
 pub bound-step : (f : Bytes) (i : ℕ) (x : Head) → x ≡ headOf f i → bound (treeAt f i) ≡ max (headBound x) (bound (treeAt f (innerNo x)))
 bound-step f i x e = ap bound (tree-step f i ∙ ap (grow (treeAt f)) (sym e)) ∙ grow-bound f x

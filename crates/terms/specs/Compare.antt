@@ -10,10 +10,11 @@ use lib.Dec.{eqb}
 use lib.ListN.{length, getD, List·getD-map}
 use borrow.Author.Tests.{eq-eqb, ne-eqb}
 use Rattle.words.specs.Bytes.{Bytes}
-use Rattle.words.specs.Decide.{does, decBoth, mapDec}
-use Rattle.rules.specs.Types.{RegionKind, Region, Variable, region, decRegion, Tree, int, ptr, arr, struct, sub, arg, nowhere}
+use Rattle.words.specs.Choose.{bool-same}
+use Rattle.words.specs.Decide.{does, does-true, true-does, decBoth, mapDec}
+use Rattle.rules.specs.Types.{RegionKind, Region, Variable, region, decRegion, form, decTree, Tree, int, ptr, arr, struct, rawPtr, bytes, sub, arg, nowhere}
 use Rattle.terms.specs.declared.Head.{Head}
-use Rattle.terms.specs.declared.Head.the-variants.{Int, Ptr, Arr, Struct}
+use Rattle.terms.specs.declared.Head.the-variants.{Int, Ptr, Arr, Struct, Untyped}
 use Rattle.terms.specs.Heads.{innerNo}
 use Rattle.terms.specs.HeadLaws.{Fair}
 
@@ -41,11 +42,23 @@ unfolding sub
 sub-same σ τ h (int w) = refl
 sub-same {k = k} σ τ h (ptr T r) = ap₂ {C = Tree k} ptr (sub-same σ τ h T) (h r)
 sub-same {k = k} σ τ h (arr n T) = ap {B = Tree k} (arr n) (sub-same σ τ h T)
+sub-same {k = k} σ τ h (rawPtr n r) = ap {B = Tree k} (rawPtr n) (h r)
+sub-same σ τ h bytes = refl
 sub-same {j} {k} σ τ h (struct N rs) = ap {B = Tree k} (struct N) (maps rs)
   where
     maps : (rs : List (Region j)) → map σ rs ≡ map τ rs
     maps [] = refl
     maps (r ∷ rs) = ap₂ {C = List (Region k)} _∷_ (h r) (maps rs)
+
+-- a substitution keeps the form
+pub form-sub : {j k : RegionKind} (σ : Region j → Region k) (T : Tree j) → form (sub σ T) ≡ form T
+unfolding sub
+form-sub σ (int w) = refl
+form-sub σ (ptr T r) = refl
+form-sub σ (arr n T) = refl
+form-sub σ (struct N rs) = refl
+form-sub σ (rawPtr n r) = refl
+form-sub σ bytes = refl
 
 -- ---- tests as Booleans
 
@@ -72,6 +85,14 @@ pub does-region : {k : RegionKind} (r s : Region k) → does (decRegion r s) ≡
 unfolding decRegion
 does-region r s = does-map _ _ (ℕ-discrete (r .number) (s .number)) ∙ does-nat (r .number) (s .number)
 
+-- trees of other forms
+pub tree-other : {k : RegionKind} (T U : Tree k) → (form T ≡ form U → ⊥) → does (decTree T U) ≡ false
+tree-other T U h = does-is (decTree T U) false (λ e. absurd (h (ap form e))) (λ _. refl)
+
+-- what decides whether two trees are equal
+pub tree-same : {k : RegionKind} (T U : Tree k) (b : Bool) → (T ≡ U → b ≡ true) → (b ≡ true → T ≡ U) → does (decTree T U) ≡ b
+tree-same T U b to from = bool-same (does (decTree T U)) b (λ h. to (does-true (decTree T U) h)) (λ h. true-does (decTree T U) (from h))
+
 -- ---- along a term
 
 -- what is inside is at a lower place
@@ -80,6 +101,7 @@ inner-less p (Int w) e l = l
 inner-less p (Ptr a r) e l = e .0
 inner-less p (Arr n a) e l = e .0
 inner-less p (Struct N n d) e l = l
+inner-less p (Untyped n r) e l = l
 
 -- and at place 0 there is nothing inside
 pub inner-le : (p : ℕ) (h : Head) → Fair p h → innerNo h ≤ p
@@ -87,3 +109,4 @@ inner-le p (Int w) e = omega arith
 inner-le p (Ptr a r) e = let l = e .0 in omega arith
 inner-le p (Arr n a) e = let l = e .0 in omega arith
 inner-le p (Struct N n d) e = omega arith
+inner-le p (Untyped n r) e = omega arith

@@ -21,7 +21,7 @@ use Rattle.layout.specs.Prims.{count-packed, size-copiesOf, count-copiesOf, len
 use Rattle.layout.specs.Flat.{struct-known}
 use Rattle.terms.specs.declared.Extent.{Extent}
 use Rattle.terms.specs.declared.Head.{Head}
-use Rattle.terms.specs.declared.Head.the-variants.{Int, Ptr, Arr, Struct}
+use Rattle.terms.specs.declared.Head.the-variants.{Int, Ptr, Arr, Struct, Untyped}
 use Rattle.terms.specs.Heads.{argsOf, placeOf, treeAt, headOf, grow}
 use Rattle.terms.specs.HeadLaws.{trees-at, tree-step}
 use Rattle.terms.specs.Extents.{Terms, Counted, cap, extentOf, over, plus, times, termExtent, structExtent, fieldPlace, fieldCount, firsts, soFar}
@@ -116,6 +116,10 @@ module _ (f : Bytes) (k p : ℕ) where
   pub term-ptr : (a r : ℕ) → headOf f p ≡ Ptr a r → termExtent f k p ≡ record { size = 4; count = 1 }
   unfolding grow flatWith cap
   term-ptr a r e = by-head (Ptr a r) e
+
+  pub term-untyped : (n r : ℕ) → headOf f p ≡ Untyped n r → termExtent f k p ≡ record { size = 4; count = 1 }
+  unfolding grow flatWith cap
+  term-untyped n r e = by-head (Untyped n r) e
 
   pub term-arr : (n a : ℕ) → headOf f p ≡ Arr n a → termExtent f k p ≡ times n (termExtent f k a)
   unfolding grow flatWith termExtent

@@ -18,7 +18,7 @@ use Rattle.rules.specs.Decode.{noTree, regionBytes, treeOf, treesOf}
 use Rattle.rules.specs.declared.Record.{Record}
 use Rattle.typing.specs.Types.{trees-length}
 use Rattle.terms.specs.declared.Head.{Head}
-use Rattle.terms.specs.declared.Head.the-variants.{Int, Ptr, Arr, Struct}
+use Rattle.terms.specs.declared.Head.the-variants.{Int, Ptr, Arr, Struct, Untyped}
 use Rattle.terms.specs.Heads.{digit, argsOf, placeOf, treeAt, headFrom, headOf, grow}
 
 -- ---- the bytes of d
@@ -56,9 +56,13 @@ module _ (t : ℕ) (x : Record) where
   unfolding headFrom
   head-arr e = rw e
 
-  pub head-struct : (x .kind ≡ 1 → ⊥) → (x .kind ≡ 2 → ⊥) → (x .kind ≡ 3 → ⊥) → headFrom t x ≡ Struct (x .a) (x .b) (x .d)
+  pub head-untyped : x .kind ≡ 11 → headFrom t x ≡ Untyped (x .d) (x .a)
   unfolding headFrom
-  head-struct p q r = cond-ne _ _ p ∙ cond-ne _ _ q ∙ cond-ne _ _ r
+  head-untyped e = rw e
+
+  pub head-struct : (x .kind ≡ 1 → ⊥) → (x .kind ≡ 2 → ⊥) → (x .kind ≡ 3 → ⊥) → (x .kind ≡ 11 → ⊥) → headFrom t x ≡ Struct (x .a) (x .b) (x .d)
+  unfolding headFrom
+  head-struct p q r u = cond-ne _ _ p ∙ cond-ne _ _ q ∙ cond-ne _ _ r ∙ cond-ne _ _ u
 
 pub head-none : (f : Bytes) (p : ℕ) → p ≡ 0 → headOf f p ≡ Int 1
 unfolding headOf
@@ -122,6 +126,7 @@ tree-from f t x =
     let one : Bool = eqb (x .kind) 1 in
     let two : Bool = eqb (x .kind) 2 in
     let three : Bool = eqb (x .kind) 3 in
+    let untyped : Bool = eqb (x .kind) 11 in
     simp (trees-at f t (x .a), args-are x (x .b), cond-ap (grow (treeAt f)))
 
 pub tree-step : (f : Bytes) (p : ℕ) → treeAt f p ≡ grow (treeAt f) (headOf f p)
@@ -135,6 +140,7 @@ Fair p (Int w) = w < 256
 Fair p (Ptr a r) = (a < p) × (r < 256)
 Fair p (Arr n a) = (a < p) × (n < 4294967296)
 Fair p (Struct N n d) = (N < 256) × (n < 256) × (d < 4294967296)
+Fair p (Untyped n r) = (n < 4294967296) × (r < 256)
 
 fair-from : (t : ℕ) (x : Record) → x .a < 256 → x .b < 256 → x .d < 4294967296 → Fair (suc t) (headFrom t x)
 unfolding headFrom
@@ -142,7 +148,8 @@ fair-from t x a b d =
     let l = place-le t (x .a) in
     cond-split (Fair (suc t)) (eqb (x .kind) 1) _ _ (λ _. a)
     (λ _. cond-split (Fair (suc t)) (eqb (x .kind) 2) _ _ (λ _. (omega arith, b))
-    (λ _. cond-split (Fair (suc t)) (eqb (x .kind) 3) _ _ (λ _. (omega arith, d)) (λ _. (a, b, d))))
+    (λ _. cond-split (Fair (suc t)) (eqb (x .kind) 3) _ _ (λ _. (omega arith, d))
+    (λ _. cond-split (Fair (suc t)) (eqb (x .kind) 11) _ _ (λ _. (d, a)) (λ _. (a, b, d)))))
 
 pub fair : (f : Bytes) → AllBytes f → (p : ℕ) → Fair p (headOf f p)
 unfolding headOf recordOf
@@ -159,12 +166,14 @@ Narrow (Int w) = Unit {0}
 Narrow (Ptr a r) = r < 256
 Narrow (Arr n a) = Unit {0}
 Narrow (Struct N n d) = d < 4294967296
+Narrow (Untyped n r) = r < 256
 
 pub fair-narrow : (p : ℕ) (h : Head) → Fair p h → Narrow h
 fair-narrow p (Int w) e = tt
 fair-narrow p (Ptr a r) e = e .1
 fair-narrow p (Arr n a) e = tt
 fair-narrow p (Struct N n d) e = e .2
+fair-narrow p (Untyped n r) e = e .1
 
 pub narrow-at : (g h : Head) → Narrow g → g ≡ h → Narrow h
 narrow-at g h w e = subst Narrow e w

@@ -28,7 +28,12 @@ pub enum Head {
     Arr(usize, usize),
     // a struct, for so many regions, a byte of the number each
     Struct(usize, usize, usize),
+    // a pointer to so many untyped bytes, in a region
+    Untyped(usize, usize),
 }
+
+// The type of a region is an entry of record 8: a term, or this, of an untyped region.
+pub const UNTYPED: usize = 255;
 
 // The size of what has none: one more than an object may have.
 const NO_SIZE: usize = SIZE_LIMIT + 1;
@@ -94,6 +99,9 @@ fn head_from(t: usize, x: Record) -> Head
     if kind == 3 {
         return Head::Arr(wide_word(x.d), place_of(t, wide(x.a)));
     }
+    if kind == 11 {
+        return Head::Untyped(wide_word(x.d), wide(x.a));
+    }
     Head::Struct(wide(x.a), wide(x.b), wide_word(x.d))
 }
 
@@ -117,6 +125,7 @@ pub fn form_no(h: Head) -> usize
         Head::Ptr(_, _) => 2,
         Head::Arr(_, _) => 3,
         Head::Struct(_, _, _) => 4,
+        Head::Untyped(_, _) => 11,
     }
 }
 
@@ -128,6 +137,7 @@ pub fn main_no(h: Head) -> usize
         Head::Ptr(_, _) => 0,
         Head::Arr(n, _) => n,
         Head::Struct(n, _, _) => n,
+        Head::Untyped(n, _) => n,
     }
 }
 
@@ -139,6 +149,7 @@ pub fn inner_no(h: Head) -> usize
         Head::Ptr(a, _) => a,
         Head::Arr(_, a) => a,
         Head::Struct(_, _, _) => 0,
+        Head::Untyped(_, _) => 0,
     }
 }
 
@@ -150,6 +161,7 @@ pub fn region_no(h: Head) -> usize
         Head::Ptr(_, r) => r,
         Head::Arr(_, _) => 255,
         Head::Struct(_, _, _) => 255,
+        Head::Untyped(_, r) => r,
     }
 }
 
@@ -161,6 +173,7 @@ pub fn args_no(h: Head) -> usize
         Head::Ptr(_, _) => 0,
         Head::Arr(_, _) => 0,
         Head::Struct(_, n, _) => n,
+        Head::Untyped(_, _) => 0,
     }
 }
 
@@ -172,6 +185,7 @@ pub fn word_no(h: Head) -> usize
         Head::Ptr(_, _) => 0,
         Head::Arr(_, _) => 0,
         Head::Struct(_, _, d) => d,
+        Head::Untyped(_, _) => 0,
     }
 }
 
@@ -237,6 +251,7 @@ pub fn term_extent(f: &[u8], n: usize, k: usize, p: usize) -> Extent
                 over()
             }
         }
+        Head::Untyped(_, _) => Extent { size: 4, count: 1 },
     }
 }
 
@@ -327,6 +342,7 @@ fn head_bound(h: Head) -> usize
         Head::Ptr(_, r) => r + 1,
         Head::Arr(_, _) => 0,
         Head::Struct(_, n, d) => args_bound(d, n),
+        Head::Untyped(_, r) => r + 1,
     }
 }
 
@@ -363,7 +379,7 @@ pub fn head_term(f: &[u8], n: usize, t: usize) -> Head
     head_of(f, place_of(n, t))
 }
 
-// The form of a term whose record has this kind: 1 integer, 2 pointer, 3 array, 4 struct.
+// The form of a term whose record has this kind: 1 integer, 2 pointer, 3 array, 4 struct, 11 untyped pointer.
 fn form_by(kind: u8) -> usize
     ensures { λ r. ⌜ r ≡ formBy kind ⌝ }
 {
@@ -373,6 +389,8 @@ fn form_by(kind: u8) -> usize
         2
     } else if kind == 3 {
         3
+    } else if kind == 11 {
+        11
     } else {
         4
     }
@@ -390,7 +408,7 @@ pub fn form(f: &[u8], n: usize, t: usize) -> usize
     }
 }
 
-// Its width, the region of a pointer, the count of an array, the number of a struct.
+// Its width, the region of a pointer, the count of an array, the number of a struct, the bytes of an untyped pointer.
 pub fn number(f: &[u8], n: usize, t: usize) -> usize
     requires { ⌜ Terms (now f) n ⌝ }
     ensures { λ r. ⌜ r ≡ numberOf (moduleOf (now (f .entry)) .term t) ⌝ }
@@ -408,7 +426,8 @@ pub fn primitive(f: &[u8], n: usize, t: usize) -> bool
     requires { ⌜ Terms (now f) n ⌝ }
     ensures { λ r. ⌜ r ≡ does (decPrimitive (moduleOf (now (f .entry)) .term t)) ⌝ }
 {
-    form(f, n, t) <= 2
+    let form = form(f, n, t);
+    (form <= 2) | (form == 11)
 }
 
 // Whether it is the integer of so many bytes.

@@ -13,7 +13,7 @@ use Rattle.terms.specs.HeadLaws.{fair-at}
 use Rattle.terms.specs.Heads.{argsOf, headOf, placeOf}
 use Rattle.terms.specs.declared.Extent.{Extent}
 use Rattle.terms.specs.declared.Head.the-variants.{Arr}
-use Rattle.positions.specs.Positions.{Agree, keeps-args, single-int, single-ptr, struct-size, struct-count, arr-layout, before, field, struct-fields}
+use Rattle.positions.specs.Positions.{Agree, keeps-args, single-int, single-ptr, single-untyped, struct-size, struct-count, arr-layout, before, field, struct-fields}
 use Rattle.positions.specs.Table.{termLayout, structLayout, NoStruct, InStruct, CoreIs, exactOf}
 use Rattle.positions.specs.TableLaws.{known-less}
 use Rattle.positions.specs.declared.Core.{Core}
@@ -550,6 +550,19 @@ term-written-returns-5 t c =
 term-written-returns-6 : (t : ℕ) → term-written-lts.Need-returns-6 (term-written-uses t) (term-written-at t) term-written.Post
 term-written-returns-6 t c = absurd (subst NoStruct (sym (c .before .before .head-of .ensures .0) ∙ c .enum-told3 .given .1) (trm-core t (c .before .before) .1))
 
+term-written-put-requires-3 : (t : ℕ) → term-written-lts.Need-put-requires-3 (term-written-uses t) (term-written-at t) term-written.Post
+term-written-put-requires-3 t c κs =
+    let x = c .before .before .before .before in
+    (omega (arith, trm-room t x, trm-some t x), omega (arith, trm-low t x, c .before .before .before .before .before .before .before .before .before .before .before .before .before .pre .1 .4 .terms .few), omega (arith, trm-fits t x))
+
+term-written-returns-7 : (t : ℕ) → term-written-lts.Need-returns-7 (term-written-uses t) (term-written-at t) term-written.Post
+term-written-returns-7 t c =
+    let a = c .before .before .before .before .before .before .before .before .before .before .before .before .before .before .args in
+    let x = c .before .before .before .before .before in
+    let w = put-single (c .before .before .before .before .before .before .before .before .before .before .before .before .before .before .pre .1 .5) (a .at) (trm-p t x) (a .t5) (a .off) (omega (arith, trm-room t x, trm-some t x)) (omega (arith, trm-fits t x)) (now (a .f)) (a .k) _ (omega (arith, trm-low t x, c .before .before .before .before .before .before .before .before .before .before .before .before .before .before .pre .1 .4 .terms .few))
+    (single-untyped (now (a .f)) (a .k) (trm-p t x) (a .off) 0 (a .t5) _ _ (sym (c .before .before .before .before .before .head-of .ensures .0) ∙ c .before .before .before .enum-told4 .given .1)) (c .put3 .ensures .0) (c .put3 .ensures .1) in
+    (written-same (sym (trm-same t x)) (w .0), w .1, past-later (a .at) (a .off) (past-kept (a .at) (a .off) (c .before .before .before .before .before .before .before .before .before .before .before .before .before .before .pre .1 .7) (w .1) (omega arith) (put-memo (c .before .before .before .before .before .before .before .before .before .before .before .before .before .before .pre .1 .5) (a .at) (trm-p t x) (a .t5) (a .off) (let z = trm-some t x in omega (arith, trm-room t x)) (omega (arith, trm-fits t x)) (let z = trm-some t x in omega (arith, trm-room t x)) (c .put3 .ensures .0) (c .put3 .ensures .1))) (omega arith) (omega arith))
+
 pub +copies-written+struct-written+term-written-spec : {M : Type 1} → statement M
 +copies-written+struct-written+term-written-spec =
     close μ-copies-written μ-struct-written μ-term-written (λ t. copies-written-lts.spec (copies-written-uses t)
@@ -622,8 +635,11 @@ pub +copies-written+struct-written+term-written-spec : {M : Type 1} → statemen
     (λ c. search needs)
     (term-written-put-requires-2 t)
     (λ c. search needs)
+    (λ c. search needs)
+    (term-written-put-requires-3 t)
     (term-written-returns-2 t)
     (term-written-returns-3 t)
     (term-written-returns-4 t)
     (term-written-returns-5 t)
     (term-written-returns-6 t)
+    (term-written-returns-7 t)

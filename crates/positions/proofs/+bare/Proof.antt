@@ -50,6 +50,9 @@ returns-4 t c = bare-self (now (c .before .before .before .before .args .f)) (c 
 returns-5 : (t : ℕ) → bare-lts.Need-returns-5 (uses t) (bare-at t) bare.Post
 returns-5 t c = bare-self (now (c .before .before .before .before .args .f)) (c .before .before .before .before .args .p)
 
+returns-6 : (t : ℕ) → bare-lts.Need-returns-6 (uses t) (bare-at t) bare.Post
+returns-6 t c = bare-self (now (c .before .before .before .before .args .f)) (c .before .before .before .before .args .p)
+
 pub +bare-spec : {M : Type 1} → statement M
 +bare-spec = close μ-bare λ t. bare-lts.spec (uses t)
     (bare-at t)
@@ -61,7 +64,9 @@ pub +bare-spec : {M : Type 1} → statement M
     (λ c. search needs)
     (λ c. search needs)
     (λ c. search needs)
+    (λ c. search needs)
     (returns-2 t)
     (returns-3 t)
     (returns-4 t)
     (returns-5 t)
+    (returns-6 t)

@@ -7,7 +7,7 @@ use Rattle.rules.specs.Flat.{Layout, count, subLayout}
 use Rattle.rules.specs.Types.{variable, arg}
 use Rattle.rules.specs.declared.Record.{Record}
 use Rattle.layout.specs.Prims.{nth}
-use Rattle.positions.specs.Positions.{Found, keeps-args, found-single, single-int, single-ptr, struct-size, struct-count, found-struct, element-fits, element-some, element-inside, element-room, offset-le, found-arr, before, field, fields-end, field-fits, size-next, count-next, sums-small, field-inside, in-field, found-field}
+use Rattle.positions.specs.Positions.{Found, keeps-args, found-single, single-int, single-ptr, single-untyped, struct-size, struct-count, found-struct, element-fits, element-some, element-inside, element-room, offset-le, found-arr, before, field, fields-end, field-fits, size-next, count-next, sums-small, field-inside, in-field, found-field}
 use Rattle.positions.specs.Table.{termLayout, structLayout, NoStruct, InStruct, CoreIs, exactOf}
 use Rattle.positions.specs.TableLaws.{known-less, extent-small}
 use Rattle.positions.specs.declared.Core.{Core}
@@ -315,6 +315,15 @@ term-prim-returns-5 t c =
 term-prim-returns-6 : (t : ℕ) → term-prim-lts.Need-returns-6 (term-prim-uses t) (term-prim-at t) term-prim.Post
 term-prim-returns-6 t c = absurd (subst NoStruct (sym (c .before .before .head-of .ensures .0) ∙ c .enum-told3 .given .1) (trm-core t (c .before .before) .1))
 
+term-prim-returns-7 : (t : ℕ) → term-prim-lts.Need-returns-7 (term-prim-uses t) (term-prim-at t) term-prim.Post
+term-prim-returns-7 t c =
+    let a = c .before .before .before .before .before .before .before .before .before .args in
+    let x = c .before .before in (
+      trm-found t x (record { off = a .off; place = trm-p t x; to = a .t5 }) (found-single (now (a .f)) (a .k) (trm-p t x) (a .off) (a .i) (a .t5) _ (single-untyped (now (a .f)) (a .k) (trm-p t x) (a .off) (a .i) (a .t5) _ _ (sym (c .before .before .head-of .ensures .0) ∙ c .enum-told4 .given .1)) (trm-inside t x)),
+      trm-low t x,
+      omega (arith, trm-fits t x),
+    )
+
 pub +struct-prim+term-prim-spec : {M : Type 1} → statement M
 +struct-prim+term-prim-spec = close μ-struct-prim μ-term-prim (λ t. struct-prim-lts.spec (struct-prim-uses t)
     (struct-prim-at t)
@@ -363,8 +372,10 @@ pub +struct-prim+term-prim-spec : {M : Type 1} → statement M
     (λ c. search needs)
     (λ c. search needs)
     (λ c. search needs)
+    (λ c. search needs)
     (term-prim-returns-2 t)
     (term-prim-returns-3 t)
     (term-prim-returns-4 t)
     (term-prim-returns-5 t)
     (term-prim-returns-6 t)
+    (term-prim-returns-7 t)

@@ -43,6 +43,9 @@ returns-3 c = (c .before .before .before .bare .ensures, subst NoStruct (sym (sy
 returns-4 : tie.Need-returns-4
 returns-4 c = (c .before .before .before .bare .ensures, subst NoStruct (sym (sym (c .before .before .head-of .ensures .0) ∙ c .enum-told3 .given .1)) tt)
 
+returns-5 : tie.Need-returns-5
+returns-5 c = (c .before .before .before .bare .ensures, subst NoStruct (sym (sym (c .before .before .head-of .ensures .0) ∙ c .enum-told4 .given .1)) tt)
+
 pub core-of-spec : {M : Type 1} → statement M
 core-of-spec =
     tie.close
@@ -55,7 +58,9 @@ core-of-spec =
     (λ c. search needs)
     (λ c. search needs)
     (λ c. search needs)
+    (λ c. search needs)
     returns
     returns-2
     returns-3
-    returns-4)
+    returns-4
+    returns-5)

@@ -5,6 +5,7 @@ use Rattle.rules.specs.Flat.{flat}
 use Rattle.rules.specs.Types.{RegionKind, variable, live, sub}
 use Rattle.runs.specs.Runs.{page-none, page-past, page-in, size-under}
 use Rattle.terms.specs.Compare.{under}
+use Rattle.terms.specs.Readers.{entryType}
 use Rattle.terms.specs.declared.Extent.{Extent}
 use borrow.Author.Needs.{needs}
 use denote.Ref.{now}
@@ -15,8 +16,8 @@ use Rattle.runs.proofs.in_page.Statement.{statement}
 use Rattle.runs.proofs.in_page.Tie as tie
 
 module _ (c : tie.After-extent-at) where
-  is : (j : RegionKind) → c .extent-at .result .size ≡ flat (moduleOf (now (c .before .before .before .before .before .args .f))) (sub (under {k = j} (now (c .before .before .before .before .before .args .p))) (moduleOf (now (c .before .before .before .before .before .args .f)) .term (c .before .before .before .before .before .args .u))) .size
-  is j = ap (λ (x : Extent). x .size) (c .extent-at .ensures .0) ∙ size-under j (now (c .before .before .before .before .before .args .f)) (now (c .before .before .before .before .before .args .p)) (c .before .before .before .before .before .args .u)
+  is : (j : RegionKind) → c .extent-at .result .size ≡ flat (moduleOf (now (c .before .before .before .before .before .args .f))) (sub (under {k = j} (now (c .before .before .before .before .before .args .p))) (entryType (now (c .before .before .before .before .before .args .f)) (c .before .before .before .before .before .args .u))) .size
+  is j = ap (λ (x : Extent). x .size) (c .extent-at .ensures .0) ∙ size-under j (now (c .before .before .before .before .before .args .f)) (now (c .before .before .before .before .before .args .p)) (c .before .before .before .before .before .args .n) (c .before .before .before .before .before .pre .0 .counted .terms) (c .before .before .before .before .before .args .u)
 
 extent-at-requires : tie.Need-extent-at-requires
 extent-at-requires c κs = c .before .before .before .before .pre .0

@@ -4,7 +4,7 @@
 use Prim.Native.Nat.{_+_, _*_, _-_, _≤_}
 use Rattle.rules.specs.File.{entryOf}
 use Rattle.rules.specs.declared.Record.{Record}
-use Rattle.terms.specs.ExtentLaws.{term-int, term-ptr, term-arr, term-known, term-unknown, struct-all, so-begin, so-next, over-is, so-stop}
+use Rattle.terms.specs.ExtentLaws.{term-int, term-ptr, term-untyped, term-arr, term-known, term-unknown, struct-all, so-begin, so-next, over-is, so-stop}
 use Rattle.terms.specs.Extents.{Small, soFar, fieldCount, fieldPlace, times}
 use Rattle.terms.specs.HeadLaws.{fair-at}
 use Rattle.terms.specs.Heads.{placeOf}
@@ -134,6 +134,9 @@ term-extent-returns-5 : (t : ℕ) → term-extent-lts.Need-returns-5 (term-exten
 term-extent-returns-5 t c = let a = c .before .before .before .before .before .before .before .args in
     (c .over .ensures ∙ sym (term-unknown (now (a .f)) (a .k) (a .p) _ _ _ (sym (c .before .before .before .before .before .head-of .ensures .0) ∙ c .before .before .before .number .given .1) (c .before .if1 .left)), rw (c .over .ensures) (omega arith, omega arith))
 
+term-extent-returns-6 : (t : ℕ) → term-extent-lts.Need-returns-6 (term-extent-uses t) (term-extent-at t) term-extent.Post
+term-extent-returns-6 t c = let a = c .before .before .before .before .args in (sym (term-untyped (now (a .f)) (a .k) (a .p) _ _ (sym (c .before .before .head-of .ensures .0) ∙ c .enum-told2 .given .1)), (omega arith, omega arith))
+
 pub +struct-extent+term-extent-spec : {M : Type 1} → statement M
 +struct-extent+term-extent-spec = close μ-struct-extent μ-term-extent (λ t. struct-extent-lts.spec (struct-extent-uses t)
     (struct-extent-at t)
@@ -169,8 +172,10 @@ pub +struct-extent+term-extent-spec : {M : Type 1} → statement M
     (λ c. search needs)
     (term-extent-struct-extent-requires t)
     (λ c κs. search needs)
+    (λ c. search needs)
     (term-extent-returns t)
     (term-extent-returns-2 t)
     (term-extent-returns-3 t)
     (term-extent-returns-4 t)
     (term-extent-returns-5 t)
+    (term-extent-returns-6 t)

@@ -15,11 +15,17 @@ add-result c = omega (arith, narrow-at _ _ (c .before .before .before .pre) (c .
 args-bound-requires : tie.Need-args-bound-requires
 args-bound-requires c κs = narrow-at _ _ (c .before .before .before .pre) (c .before .h2 .given .1)
 
+add-result-2 : tie.Need-add-result-2
+add-result-2 c = omega (arith, narrow-at _ _ (c .before .before .before .pre) (c .before .h3 .given .1))
+
 returns-2 : tie.Need-returns-2
 returns-2 c = add-one _ ∙ sym (ap headBound (c .before .h .given .1))
 
 returns-4 : tie.Need-returns-4
 returns-4 c = c .args-bound .ensures ∙ sym (ap headBound (c .before .before .h2 .given .1))
+
+returns-5 : tie.Need-returns-5
+returns-5 c = add-one _ ∙ sym (ap headBound (c .before .h3 .given .1))
 
 pub head-bound-spec : {M : Type 1} → statement M
 head-bound-spec =
@@ -32,6 +38,9 @@ head-bound-spec =
     (λ c. search needs)
     args-bound-requires
     (λ c. search needs)
+    add-result-2
+    (λ c. search needs)
     returns-2
     (λ c. search needs)
-    returns-4)
+    returns-4
+    returns-5)

@@ -1,6 +1,7 @@
 -- `judgment::arithmetic::constant` meets its contract: by the register's word.
 use mathlib.Core.Path.{ap, ap₂, _∙_}
 use Prim.Native.Nat.{ℕ, _^_}
+use native.Mathlib.Omega.{arith}
 use mathlib.Core.Bool.{_&&_}
 use lib.Dec.{ltb, eqb}
 use borrow.Author.Tests.{eqb-true}
@@ -44,7 +45,7 @@ returns c =
     let d = c .before .before .before .entry .ensures in
     ap₂ _&&_ (ap (λ (x : ℕ). eqb x 1) (c .before .before .kind-in .ensures) ∙ d .integer) (c .fits2 .ensures ∙ ap (λ (w : ℕ). ltb (a .d) (256 ^ w)) (c .before .number-in .ensures))
     ∙ guarded (isInteger F (a .a)) _ (ltb (a .d) (256 ^ numberOf (F .registerType (a .a))))
-    (λ q. ap (λ (w : ℕ). ltb (a .d) (256 ^ w)) (d .number (eqb-true (form (F .registerType (a .a))) 1 (both (isRegister F (a .a)) (eqb (form (F .registerType (a .a))) 1) q .1))))
+    (λ q. ap (λ (w : ℕ). ltb (a .d) (256 ^ w)) (d .number (λ z. let i = eqb-true (form (F .registerType (a .a))) 1 (both (isRegister F (a .a)) (eqb (form (F .registerType (a .a))) 1) q .1) in omega arith)))
     ∙ constant-test m F (a .a) (a .d)
 
 pub constant-spec : {M : Type 1} → statement M

@@ -31,12 +31,12 @@ region-term-requires-2 c κs = search needs
 in-scope-requires : tie.Need-in-scope-requires
 in-scope-requires c κs = search needs
 
-equal-under-requires : tie.Need-equal-under-requires
-equal-under-requires c κs = search needs
+types-equal-requires : tie.Need-types-equal-requires
+types-equal-requires c κs = search needs
 
 returns : tie.Need-returns
 unfolding callRegion
-returns c = let a = c .before .before .before .before .before .before .before .before .args in let f = now (a .f) in let v = c .before .before .before .before .digit .ensures ∙ digit-byte (a .x) (a .i) in ap₂ _&&_ (c .before .in-scope .ensures ∙ ap (λ (v : ℕ). ltb v (regions (functionAt f (a .h)))) v) (c .equal-under .ensures ∙ ap₂ (λ (S T : Tree variable). does (decTree S (sub (under (now (a .to))) T))) (region-is f (a .h) _ (c .before .before .before .region-term .ensures) ∙ ap (functionAt f (a .h) .regionType) v) (region-is f (a .e) (a .i) (c .before .before .region-term2 .ensures)))
+returns c = let a = c .before .before .before .before .before .before .before .before .args in let f = now (a .f) in let v = c .before .before .before .before .digit .ensures ∙ digit-byte (a .x) (a .i) in ap₂ _&&_ (c .before .in-scope .ensures ∙ ap (λ (v : ℕ). ltb v (regions (functionAt f (a .h)))) v) (c .types-equal .ensures ∙ ap₂ (λ (S T : Tree variable). does (decTree S (sub (under (now (a .to))) T))) (region-is f (a .h) _ (c .before .before .before .region-term .ensures) ∙ ap (functionAt f (a .h) .regionType) v) (region-is f (a .e) (a .i) (c .before .before .region-term2 .ensures)))
 
 pub call-region-spec : {M : Type 1} → statement M
 call-region-spec =
@@ -47,5 +47,5 @@ call-region-spec =
     region-term-requires
     region-term-requires-2
     in-scope-requires
-    equal-under-requires
+    types-equal-requires
     returns)
