@@ -3,3 +3,4 @@ pub mod Search
 pub mod Places
 pub mod Meaning
 pub mod Known
+pub mod Untyped

@@ -2,16 +2,16 @@
 // object writes. The state is trusted: nothing is tested that an accepted module and a tested state guarantee.
 ghost use mathlib.Core.Path.{_≡_};
 ghost use mathlib.Core.List.{[], _∷_};
-ghost use Prim.Native.Nat.{suc, _+_, _*_, _<_, _≤_};
+ghost use Prim.Native.Nat.{_+_, _*_, _<_, _≤_};
 ghost use lib.ListN.{length};
 ghost use Rattle.words.specs.Bytes.{Bytes};
 ghost use Rattle.rules.specs.Limits.{stateBytes, pages, pageBytes, liveRegions, markBytes};
-ghost use Rattle.rules.specs.State.{lowPage, endPage, view, pageOwner, pageMark, written, putOwner, putMark, clearMemory, clearPage};
+ghost use Rattle.rules.specs.State.{lowPage, endPage, view, pageOwner, pageMark, written, putMark};
 ghost use Rattle.rules.specs.Heap.{placesInPage};
 ghost use Rattle.rules.specs.Step.{unusedPlace, unownedPage};
 ghost use Rattle.state.specs.Marks.{lowestZero};
 ghost use Rattle.pages.specs.Search.{Found, NoneBefore};
-ghost use Rattle.pages.specs.Places.{openByte, FullBelow};
+ghost use Rattle.pages.specs.Places.{openByte, FullBelow, takeWrites, grantWrites};
 ghost use Rattle.pages.specs.Known.{knownEntries, UsedBelow, Used, lowered, forgot, remembered};
 ghost use Rattle.pages.specs.Meaning.{chosen, Within};
 use state::LiveRegion;
@@ -27,6 +27,8 @@ use state::range::end_page;
 use state::range::low_page;
 use words::bit_of;
 use words::wide;
+
+pub mod bytes;
 
 // What a new object takes: a place of a page that its region has, or the first place of a page that it is granted, or nothing (stop 34).
 pub enum Chosen {
@@ -85,7 +87,7 @@ fn open_byte(s: &[u8], p: u32, from: usize) -> usize
 // The lowest unused place of page p, or n, the number of its places; the places below from are used. (A byte of 255 is eight used places.)
 fn lowest_place(s: &[u8], p: u32, from: u32, n: u32) -> u32
     requires { ⌜ (length (now s) ≡ stateBytes) × (p < pages) × (n ≤ pageBytes) × UsedBelow (now s) p from ⌝ }
-    ensures { λ j. ⌜ j ≡ unusedPlace (pageMark (now (s .entry))) n p ⌝ }
+    ensures { λ j. ⌜ j ≡ unusedPlace (pageMark (now (s .entry))) n 1 p ⌝ }
 {
     if n <= from {
         return n;
@@ -132,7 +134,7 @@ pub fn unowned_page(s: &[u8], low: u32, past: u32) -> u32
 // The lowest unused place of page p, or n. The table gets what was found.
 fn place_in(s: &[u8], known: &mut [u32; KNOWN], p: u32, n: u32) -> u32
     requires { ⌜ (length (now s) ≡ stateBytes) × (p < pages) × (n ≤ pageBytes) × Used (now known) (now s) ⌝ }
-    ensures { λ j. ⌜ (j ≡ unusedPlace (pageMark (now (s .entry))) n p) × Used (now (known .exit)) (now (s .entry)) ⌝ }
+    ensures { λ j. ⌜ (j ≡ unusedPlace (pageMark (now (s .entry))) n 1 p) × Used (now (known .exit)) (now (s .entry)) ⌝ }
 {
     let i = p as usize;
     let j = lowest_place(s, p, known[i], n);
@@ -152,7 +154,7 @@ pub fn find_room(
     n: u32,
 ) -> Room
     requires { ⌜ (length (now s) ≡ stateBytes) × (past ≤ pages) × (n ≤ pageBytes) × Used (now known) (now s) ⌝ }
-    ensures { λ x. ⌜ Found (pageOwner (now (s .entry))) (pageMark (now (s .entry))) low past (r .0) n (x .page) (x .place) (x .last) × Used (now (known .exit)) (now (s .entry)) ⌝ }
+    ensures { λ x. ⌜ Found (pageOwner (now (s .entry))) (pageMark (now (s .entry))) low past (r .0) n 1 (x .page) (x .place) (x .last) × Used (now (known .exit)) (now (s .entry)) ⌝ }
 {
     let mut p = low;
     let mut last: u32 = 0;
@@ -180,7 +182,7 @@ pub fn find_room(
 // Where a search from page low on may start: at the hint's page, if the hint is for region r and n places to a page. (Nothing is asked of
 // that page but that it is not below low: whatever it is, the pages before it have no room.)
 fn search_start(known: &[u32; KNOWN], low: u32, r: LiveRegion, n: u32) -> u32
-    ensures { λ p. ⌜ ((s : Bytes) → Used (now (known .entry)) s → low ≡ lowPage (view s .range) → NoneBefore (pageOwner s) (pageMark s) low p (r .0) n) ⌝ }
+    ensures { λ p. ⌜ ((s : Bytes) → Used (now (known .entry)) s → low ≡ lowPage (view s .range) → NoneBefore (pageOwner s) (pageMark s) low p (r .0) n 1) ⌝ }
 {
     if (known[HINT_REGION] == wide(r.0) + 1)
         & (known[HINT_PLACES] == n)
@@ -205,7 +207,7 @@ fn remember(known: &mut [u32; KNOWN], r: LiveRegion, n: u32, p: u32)
 // size with n places (chosen-from).
 pub fn allocate(s: &[u8], known: &mut [u32; KNOWN], r: LiveRegion, n: u32) -> Chosen
     requires { ⌜ (length (now s) ≡ stateBytes) × (n ≤ pageBytes) × Used (now known) (now s) ⌝ }
-    ensures { λ c. ⌜ (c ≡ chosen (view (now (s .entry)) .owner) (view (now (s .entry)) .mark) (lowPage (view (now (s .entry)) .range)) (endPage (view (now (s .entry)) .range)) (r .0) n) × Within pages n c × Used (now (known .exit)) (now (s .entry)) ⌝ }
+    ensures { λ c. ⌜ (c ≡ chosen (view (now (s .entry)) .owner) (view (now (s .entry)) .mark) (lowPage (view (now (s .entry)) .range)) (endPage (view (now (s .entry)) .range)) (r .0) n 1) × Within pages n c × Used (now (known .exit)) (now (s .entry)) ⌝ }
 {
     let own = range(s);
     let low = low_page(own);
@@ -251,7 +253,7 @@ pub fn forget(known: &mut [u32; KNOWN], q: u32, j: u32)
 // steps keeps less in registers.)
 pub fn take_place(s: &mut [u8], p: u32, j: u32, n: u32) -> u32
     requires { ⌜ (length (now s) ≡ stateBytes) × (p < pages) × (j < pageBytes) × (n * j + n ≤ pageBytes) ⌝ }
-    ensures { λ x. ⌜ (x ≡ pageBytes * p + n * j) × (now (s .exit) ≡ written (putMark (now (s .entry)) p j 1 ∷ clearMemory (pageBytes * p + n * j) n ∷ []) (now (s .entry))) ⌝ }
+    ensures { λ x. ⌜ (x ≡ pageBytes * p + n * j) × (now (s .exit) ≡ written (takeWrites (now (s .entry)) p j 1 n) (now (s .entry))) ⌝ }
 {
     let page = Machine::PAGE_BYTES * p;
     let x = page + n * j;
@@ -271,7 +273,7 @@ pub fn free_place(s: &mut [u8], p: u32, j: u32)
 // Page p is granted to region r, zeroed whole, its first place used.
 pub fn grant_page(s: &mut [u8], p: u32, r: LiveRegion)
     requires { ⌜ (length (now s) ≡ stateBytes) × (p < pages) × (r .0 < liveRegions) ⌝ }
-    ensures { λ _. ⌜ now (s .exit) ≡ written (clearPage p ∷ putOwner p (suc (r .0)) ∷ putMark (now (s .entry)) p 0 1 ∷ []) (now (s .entry)) ⌝ }
+    ensures { λ _. ⌜ now (s .exit) ≡ written (grantWrites (now (s .entry)) p (r .0) 1) (now (s .entry)) ⌝ }
 {
     clear_memory(s, Machine::PAGE_BYTES * p, Machine::PAGE_BYTES);
     put_owner(s, p, r.0 + 1);

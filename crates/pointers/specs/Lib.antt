@@ -1,2 +1,2 @@
--- Kind 22: what the code compares, and its two tests.
+-- Kinds 22 and 39: what the code compares, and its two tests.
 pub mod Checks

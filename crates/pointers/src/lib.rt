@@ -1,19 +1,21 @@
 // Kind 22 in code: a number becomes a pointer where a run of the pointer's target stands at that address. The types are the file's, each
-// closed by the top frame's map.
+// closed by the top frame's map. And kind 39: it becomes an untyped pointer where its bytes lie in one page of its region.
 ghost use mathlib.Core.Path.{_≡_};
-ghost use Prim.Native.Nat.{_+_, _<_};
+ghost use Prim.Native.Nat.{ℕ, _+_, _<_};
 ghost use lib.ListN.{length, getD};
 ghost use Rattle.rules.specs.Limits.{mostFrames, mostRegions, stateBytes};
+ghost use Rattle.rules.specs.Module.{Module};
 ghost use Rattle.rules.specs.Decode.{moduleOf};
 ghost use Rattle.rules.specs.State.{view, frameMap};
 ghost use Rattle.positions.specs.Table.{Table};
 ghost use Rattle.positions.specs.Maps.{Narrow, mapList};
 ghost use Rattle.prepared.specs.Program.{kind, registerA};
-ghost use Rattle.prepared.specs.Plain.{plainStands, plainArithmetic};
+ghost use Rattle.prepared.specs.Plain.{plainStands, plainArithmetic, plainMemory};
 ghost use Rattle.prepared.specs.Ready.{Ready};
-ghost use Rattle.effects.specs.Does.{Done, Here};
+ghost use Rattle.effects.specs.Does.{Placed, Done, Here, ReadyFirst};
 use effects::Next;
 use effects::apply::stop;
+use effects::parts::immediate_of;
 use effects::parts::region_term;
 use effects::parts::region_variable;
 use effects::parts::register_b;
@@ -24,6 +26,7 @@ use state::Machine;
 use state::RegionVariable;
 use state::fields::region_of;
 use terms::Live;
+use terms::UNTYPED;
 
 // The live region of variable i, as the byte that comparisons take.
 fn entry(s: &[u8], k: u32, i: u32) -> u8
@@ -104,6 +107,25 @@ pub fn check(
     let x = code[t.at + 1];
     if stands_at(w, x, file, terms, structs, extents, s, t.frame, a) {
         Next::Put(a)
+    } else {
+        stop(s, t, CHECK_FAILS)
+    }
+}
+
+// 39: the region is untyped by the rule of its kind, which leaves its page and the bytes that the type counts.
+pub fn check_bytes(w: u64, s: &mut [u8], t: Machine) -> Next
+    requires { ⌜ ReadyFirst (now s) (t .frame) w × Placed t × (kind w ≡ 39) ⌝ }
+    ensures { λ r. ⌜ ((m : Module) (x : ℕ) → Done t (registerA w) (plainMemory m (view (now (s .entry))) (t .frame) (kind w) w x) (now (s .entry)) r (now (s .exit))) ⌝ }
+{
+    let z = register(s, t, register_b(w));
+    if z == 0 {
+        return stop(s, t, CHECK_FAILS);
+    }
+    let r = entry(s, t.frame, region_variable(w));
+    let owner = state::total::owner(s, z / Machine::PAGE_BYTES);
+    let n = immediate_of(w) as usize;
+    if runs::in_untyped(Live(r), owner, UNTYPED, z, n) {
+        Next::Put(z)
     } else {
         stop(s, t, CHECK_FAILS)
     }

@@ -41,10 +41,10 @@ returns c =
     let past = c .before .before .before .before .before .before .before .end-page .ensures .1 in
     let none = c .before .before .before .before .before .search-start .ensures s (start .pre .2) low in
     let room = c .before .before .before .find-room in
-    let at : ℕ → ℕ → Chosen = λ lo hi. chosen (pageOwner s) (pageMark s) lo hi (start .args .r .0) (start .args .n) in
+    let at : ℕ → ℕ → Chosen = λ lo hi. chosen (pageOwner s) (pageMark s) lo hi (start .args .r .0) (start .args .n) 1 in
     let there = c .before .before .if1 .taken in (
-      place-chosen (pageOwner s) (pageMark s) _ _ (start .args .r .0) (start .args .n) (room .result .page) there (found-first none (room .ensures .0) there) (room .result .place) (room .ensures .0 .place there) ∙ ap₂ at low end,
-      (omega arith, room .ensures .0 .inside there),
+      place-chosen (pageOwner s) (pageMark s) _ _ (start .args .r .0) (start .args .n) 1 (room .result .page) there (found-first none (room .ensures .0) there) (room .result .place) (room .ensures .0 .place there) ∙ ap₂ at low end,
+      (omega arith, let h = room .ensures .0 .inside there in omega arith),
       rw (c .remember .ensures) (used-remembered _ s _ low (start .args .r .0) (start .args .n) (λ k. c .before .before .before .before .before .before .before .before .before .before .shared-slice-known .given k .fits) (room .result .page) (found-before none (room .ensures .0)) (room .ensures .1)),
     )
 
@@ -62,11 +62,11 @@ returns-2 c =
     let past = c .before .before .before .before .before .before .before .end-page .ensures .1 in
     let none = c .before .before .before .before .before .search-start .ensures s (start .pre .2) low in
     let room = c .before .before .before .find-room in
-    let at : ℕ → ℕ → Chosen = λ lo hi. chosen (pageOwner s) (pageMark s) lo hi (start .args .r .0) (start .args .n) in
+    let at : ℕ → ℕ → Chosen = λ lo hi. chosen (pageOwner s) (pageMark s) lo hi (start .args .r .0) (start .args .n) 1 in
     let full = found-full none (room .ensures .0) (c .before .before .if1 .left) in
     let free = c .before .unowned-page in
     let there = c .if2 .taken in (
-      page-chosen (pageOwner s) (pageMark s) _ _ (start .args .r .0) (start .args .n) full (free .result) (free .ensures) there ∙ ap₂ at low end,
+      page-chosen (pageOwner s) (pageMark s) _ _ (start .args .r .0) (start .args .n) 1 full (free .result) (free .ensures) there ∙ ap₂ at low end,
       omega arith,
       room .ensures .1,
     )
@@ -81,10 +81,10 @@ returns-3 c =
     let end = c .before .before .before .before .before .before .before .end-page .ensures .0 ∙ ap endPage own in
     let none = c .before .before .before .before .before .search-start .ensures s (start .pre .2) low in
     let room = c .before .before .before .find-room in
-    let at : ℕ → ℕ → Chosen = λ lo hi. chosen (pageOwner s) (pageMark s) lo hi (start .args .r .0) (start .args .n) in
+    let at : ℕ → ℕ → Chosen = λ lo hi. chosen (pageOwner s) (pageMark s) lo hi (start .args .r .0) (start .args .n) 1 in
     let full = found-full none (room .ensures .0) (c .before .before .if1 .left) in
     let free = c .before .unowned-page in (
-      nothing-chosen (pageOwner s) (pageMark s) _ _ (start .args .r .0) (start .args .n) full (free .result) (free .ensures) (c .if2 .left) ∙ ap₂ at low end,
+      nothing-chosen (pageOwner s) (pageMark s) _ _ (start .args .r .0) (start .args .n) 1 full (free .result) (free .ensures) (c .if2 .left) ∙ ap₂ at low end,
       tt,
       room .ensures .1,
     )

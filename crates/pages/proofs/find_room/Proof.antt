@@ -14,7 +14,7 @@ use Rattle.pages.proofs.find_room.Tie as tie
 
 abbrev Inv-loop : tie.InvT-loop
 Inv-loop s known₀ low past r n p₀ last₀ known p last =
-    (low ≤ p) × (p - low ≤ past - low) × ((j : ℕ) → low ≤ j → j < p → noRoom (pageOwner s) (pageMark s) (r .0) n j ≡ true) × Used known s
+    (low ≤ p) × (p - low ≤ past - low) × ((j : ℕ) → low ≤ j → j < p → noRoom (pageOwner s) (pageMark s) (r .0) n 1 j ≡ true) × Used known s
     × (last ≡ lastOwned (pageOwner s) (r .0) low (p - low))
 
 abbrev μ-loop : tie.MeasureT-loop
@@ -40,7 +40,7 @@ place-in-requires : tie.Need-place-in-requires Inv-loop μ-loop
 place-in-requires c κs = (c .before .before .before .before .before .before .before .before .pre .0, (let h = c .before .before .before .before .before .loop-test .taken in let g = c .before .before .before .before .before .before .before .before .pre .1 in omega arith), c .before .before .before .before .before .before .before .before .pre .2, c .before .before .before .before .before .before .loop .inv .3)
 
 returns : tie.Need-returns Inv-loop μ-loop
-returns c = (found-here (pageOwner (c .before .before .before .before .before .before .before .before .before .before .args .s .now)) (pageMark (c .before .before .before .before .before .before .before .before .before .before .args .s .now)) (c .before .before .before .before .before .before .before .before .before .before .args .low) (c .before .before .before .before .before .before .before .before .before .before .args .past) (c .before .before .before .before .before .before .before .before .before .before .args .r .0) (c .before .before .before .before .before .before .before .before .before .before .args .n) (c .before .before .before .before .before .before .before .before .loop .p) (c .before .before .before .before .before .before .before .before .loop .inv .2) (c .before .before .before .before .before .before .before .before .loop .inv .0) (c .before .place-in .result) (c .before .before .before .before .before .before .before .loop-test .taken) (omega arith) (c .before .place-in .ensures .0) (let h = c .if2 .taken in omega arith), c .before .place-in .ensures .1)
+returns c = (found-here (pageOwner (c .before .before .before .before .before .before .before .before .before .before .args .s .now)) (pageMark (c .before .before .before .before .before .before .before .before .before .before .args .s .now)) (c .before .before .before .before .before .before .before .before .before .before .args .low) (c .before .before .before .before .before .before .before .before .before .before .args .past) (c .before .before .before .before .before .before .before .before .before .before .args .r .0) (c .before .before .before .before .before .before .before .before .before .before .args .n) 1 (c .before .before .before .before .before .before .before .before .loop .p) (c .before .before .before .before .before .before .before .before .loop .inv .2) (c .before .before .before .before .before .before .before .before .loop .inv .0) (c .before .place-in .result) (c .before .before .before .before .before .before .before .loop-test .taken) (omega arith) (c .before .place-in .ensures .0) (let h = c .if2 .taken in omega arith), c .before .place-in .ensures .1)
 
 add-p : tie.Need-add-p Inv-loop μ-loop
 add-p c = omega arith
@@ -52,14 +52,14 @@ loop-again : tie.Need-loop-again Inv-loop μ-loop
 loop-again c = ⊎-elim
     (λ w.
     let own : pageOwner (c .before .before .before .before .before .before .before .args .s .now) (c .before .before .before .before .before .loop .p) ≡ suc (c .before .before .before .before .before .before .before .args .r .0) = let h = w .0 .taken in omega arith in
-    (omega arith, omega arith, none-own (pageOwner (c .before .before .before .before .before .before .before .args .s .now)) (pageMark (c .before .before .before .before .before .before .before .args .s .now)) (c .before .before .before .before .before .before .before .args .low) (c .before .before .before .before .before .before .before .args .past) (c .before .before .before .before .before .before .before .args .r .0) (c .before .before .before .before .before .before .before .args .n) (c .before .before .before .before .before .loop .p) (c .before .before .before .before .before .loop .inv .2) (c .before .before .before .before .before .loop .inv .0) (w .2 .result) own (w .2 .ensures .0) (w .3 .left), rw (w .4) (w .2 .ensures .1), w .5 ∙ last-own (pageOwner (c .before .before .before .before .before .before .before .args .s .now)) (c .before .before .before .before .before .before .before .args .r .0) (c .before .before .before .before .before .before .before .args .low) (c .before .before .before .before .before .loop .p) (c .before .before .before .before .before .loop .inv .0) own))
+    (omega arith, omega arith, none-own (pageOwner (c .before .before .before .before .before .before .before .args .s .now)) (pageMark (c .before .before .before .before .before .before .before .args .s .now)) (c .before .before .before .before .before .before .before .args .low) (c .before .before .before .before .before .before .before .args .past) (c .before .before .before .before .before .before .before .args .r .0) (c .before .before .before .before .before .before .before .args .n) 1 (c .before .before .before .before .before .loop .p) (c .before .before .before .before .before .loop .inv .2) (c .before .before .before .before .before .loop .inv .0) (w .2 .result) own (w .2 .ensures .0) (let h = w .3 .left in omega arith), rw (w .4) (w .2 .ensures .1), w .5 ∙ last-own (pageOwner (c .before .before .before .before .before .before .before .args .s .now)) (c .before .before .before .before .before .before .before .args .r .0) (c .before .before .before .before .before .before .before .args .low) (c .before .before .before .before .before .loop .p) (c .before .before .before .before .before .loop .inv .0) own))
     (λ w.
     let other : pageOwner (c .before .before .before .before .before .before .before .args .s .now) (c .before .before .before .before .before .loop .p) ≢ suc (c .before .before .before .before .before .before .before .args .r .0) = λ e. w .0 .left (omega arith) in
-    (omega arith, omega arith, none-other (pageOwner (c .before .before .before .before .before .before .before .args .s .now)) (pageMark (c .before .before .before .before .before .before .before .args .s .now)) (c .before .before .before .before .before .before .before .args .low) (c .before .before .before .before .before .before .before .args .past) (c .before .before .before .before .before .before .before .args .r .0) (c .before .before .before .before .before .before .before .args .n) (c .before .before .before .before .before .loop .p) (c .before .before .before .before .before .loop .inv .2) (c .before .before .before .before .before .loop .inv .0) other, rw (w .1) (c .before .before .before .before .before .loop .inv .3), w .2 ∙ last-other (pageOwner (c .before .before .before .before .before .before .before .args .s .now)) (c .before .before .before .before .before .before .before .args .r .0) (c .before .before .before .before .before .before .before .args .low) (c .before .before .before .before .before .loop .p) (c .before .before .before .before .before .loop .inv .0) other (c .before .before .before .before .before .loop .last) (c .before .before .before .before .before .loop .inv .4)))
+    (omega arith, omega arith, none-other (pageOwner (c .before .before .before .before .before .before .before .args .s .now)) (pageMark (c .before .before .before .before .before .before .before .args .s .now)) (c .before .before .before .before .before .before .before .args .low) (c .before .before .before .before .before .before .before .args .past) (c .before .before .before .before .before .before .before .args .r .0) (c .before .before .before .before .before .before .before .args .n) 1 (c .before .before .before .before .before .loop .p) (c .before .before .before .before .before .loop .inv .2) (c .before .before .before .before .before .loop .inv .0) other, rw (w .1) (c .before .before .before .before .before .loop .inv .3), w .2 ∙ last-other (pageOwner (c .before .before .before .before .before .before .before .args .s .now)) (c .before .before .before .before .before .before .before .args .r .0) (c .before .before .before .before .before .before .before .args .low) (c .before .before .before .before .before .loop .p) (c .before .before .before .before .before .loop .inv .0) other (c .before .before .before .before .before .loop .last) (c .before .before .before .before .before .loop .inv .4)))
     (c .if1 .came)
 
 returns-2 : tie.Need-returns-2 Inv-loop μ-loop
-returns-2 c = (found-none (pageOwner (c .before .before .before .args .s .now)) (pageMark (c .before .before .before .args .s .now)) (c .before .before .before .args .low) (c .before .before .before .args .past) (c .before .before .before .args .r .0) (c .before .before .before .args .n) (c .before .loop .p) (c .before .loop .inv .2) (c .before .loop .inv .0) (c .before .loop .last) (c .before .loop .inv .1) (c .loop-test .left) (c .before .loop .inv .4), c .before .loop .inv .3)
+returns-2 c = (found-none (pageOwner (c .before .before .before .args .s .now)) (pageMark (c .before .before .before .args .s .now)) (c .before .before .before .args .low) (c .before .before .before .args .past) (c .before .before .before .args .r .0) (c .before .before .before .args .n) 1 (c .before .loop .p) (c .before .loop .inv .2) (c .before .loop .inv .0) (c .before .before .before .args .n) (c .before .loop .last) (omega arith) (c .before .loop .inv .1) (c .loop-test .left) (c .before .loop .inv .4), c .before .loop .inv .3)
 
 pub find-room-spec : {M : Type 1} → statement M
 find-room-spec =

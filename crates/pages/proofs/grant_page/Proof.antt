@@ -1,7 +1,8 @@
 -- `pages::grant_page` meets its contract: the first two writes leave the marks.
 use mathlib.Core.Path.{_∙_}
-use Prim.Native.Nat.{_+_}
 use native.Mathlib.Numerals.{add-one}
+use native.Mathlib.Omega.{arith}
+use Rattle.rules.specs.State.{written, putMarks}
 use Rattle.pages.specs.Places.{grant-written}
 use borrow.Author.Needs.{needs}
 use Rattle.pages.proofs.grant_page.Statement.{statement}
@@ -26,7 +27,11 @@ same-length : tie.Need-same-length
 same-length c = search needs
 
 returns : tie.Need-returns
-returns c = rw (← add-one (c .before .before .before .before .before .before .before .before .before .before .before .before .before .before .args .r .0)) ((rw (c .before .before .before .before .before .before .put-owner .ensures, c .before .before .before .before .before .before .before .before .before .before .before .clear-memory .ensures) at (c .before .before .set-mark .ensures)) ∙ grant-written (c .before .before .before .before .before .before .before .before .before .before .before .before .before .before .args .s .now) (c .before .before .before .before .before .before .before .before .before .before .before .before .before .before .args .p) (c .before .before .before .before .before .before .before .before .before .before .before .before .before .before .args .r .0 + 1) (c .before .before .before .before .before .before .before .before .before .before .before .before .before .before .pre .1))
+unfolding written putMarks
+returns c =
+    let start = c .before .before .before .before .before .before .before .before .before .before .before .before .before .before in
+    (rw (c .before .before .before .before .before .before .put-owner .ensures, add-one (start .args .r .0), c .before .before .before .before .before .before .before .before .before .before .before .clear-memory .ensures) at (c .before .before .set-mark .ensures))
+    ∙ grant-written (start .args .s .now) (start .args .p) (start .args .r .0) 1 (start .pre .1) (omega arith)
 
 pub grant-page-spec : {M : Type 1} → statement M
 grant-page-spec =

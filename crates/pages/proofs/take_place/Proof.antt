@@ -1,7 +1,5 @@
 -- `pages::take_place` meets its contract: the zeros leave the marks.
 use mathlib.Core.Path.{refl, _∙_}
-use Prim.Native.Nat.{_+_, _*_}
-use Rattle.rules.specs.Limits.{pageBytes}
 use Rattle.pages.specs.Places.{take-written}
 use borrow.Author.Needs.{needs}
 use Rattle.pages.proofs.take_place.Statement.{statement}
@@ -26,7 +24,7 @@ same-length : tie.Need-same-length
 same-length c = search needs
 
 returns : tie.Need-returns
-returns c = (refl, (rw (c .before .before .before .before .before .before .clear-memory .ensures) at (c .before .before .set-mark .ensures)) ∙ take-written (c .before .before .before .before .before .before .before .before .before .args .s .now) (c .before .before .before .before .before .before .before .before .before .args .p) (c .before .before .before .before .before .before .before .before .before .args .j) (pageBytes * c .before .before .before .before .before .before .before .before .before .args .p + c .before .before .before .before .before .before .before .before .before .args .n * c .before .before .before .before .before .before .before .before .before .args .j) (c .before .before .before .before .before .before .before .before .before .args .n) (c .before .before .before .before .before .before .before .before .before .pre .1) (c .before .before .before .before .before .before .before .before .before .pre .2))
+returns c = (refl, (rw (c .before .before .before .before .before .before .clear-memory .ensures) at (c .before .before .set-mark .ensures)) ∙ take-written (c .before .before .before .before .before .before .before .before .before .args .s .now) (c .before .before .before .before .before .before .before .before .before .args .p) (c .before .before .before .before .before .before .before .before .before .args .j) (c .before .before .before .before .before .before .before .before .before .args .n) (c .before .before .before .before .before .before .before .before .before .pre .1) (c .before .before .before .before .before .before .before .before .before .pre .2))
 
 pub take-place-spec : {M : Type 1} → statement M
 take-place-spec =
