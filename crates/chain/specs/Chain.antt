@@ -67,7 +67,7 @@ module _ (x : Record) (c : Instruction) (not : x .kind ≢ kindCall) where
   by-group : (g : Group) → ¬ IsCall (byGroup g x c)
   unfolding byGroup arithmeticOf memoryOf controlOf
   by-group Arithmetic = pick 16 _ _ (notCall _ 16 refl (λ e. omega arith)) (pick 17 _ _ (notCall _ 17 refl (λ e. omega arith)) (pick 18 _ _ (notCall _ 18 refl (λ e. omega arith)) (pick 19 _ _ (notCall _ 19 refl (λ e. omega arith)) (pick 20 _ _ (notCall _ 20 refl (λ e. omega arith)) (pick 21 _ _ (notCall _ 21 refl (λ e. omega arith)) (notCall _ 22 refl (λ e. omega arith)))))))
-  by-group Memory = pick 23 _ _ (notCall _ 23 refl (λ e. omega arith)) (pick 24 _ _ (notCall _ 24 refl (λ e. omega arith)) (pick 25 _ _ (notCall _ 25 refl (λ e. omega arith)) (pick 26 _ _ (notCall _ 26 refl (λ e. omega arith)) (pick 27 _ _ (notCall _ 27 refl (λ e. omega arith)) (notCall _ 28 refl (λ e. omega arith))))))
+  by-group Memory = pick 23 _ _ (notCall _ 23 refl (λ e. omega arith)) (pick 24 _ _ (notCall _ 24 refl (λ e. omega arith)) (pick 25 _ _ (notCall _ 25 refl (λ e. omega arith)) (pick 26 _ _ (notCall _ 26 refl (λ e. omega arith)) (pick 27 _ _ (notCall _ 27 refl (λ e. omega arith)) (pick 28 _ _ (notCall _ 28 refl (λ e. omega arith)) (pick 36 _ _ (notCall _ 36 refl (λ e. omega arith)) (pick 37 _ _ (notCall _ 37 refl (λ e. omega arith)) (pick 38 _ _ (notCall _ 38 refl (λ e. omega arith)) (notCall _ 39 refl (λ e. omega arith))))))))))
   by-group Control = rw (ne-eqb (x .kind) kindCall not) (pick 29 _ _ (notCall _ 29 refl (λ e. omega arith)) (pick 30 _ _ (notCall _ 30 refl (λ e. omega arith)) (pick 31 _ _ (notCall _ 31 refl (λ e. omega arith)) (pick 32 _ _ (notCall _ 32 refl (λ e. omega arith)) (notCall _ 34 refl (λ e. omega arith))))))
 
   not-call : ¬ IsCall (instructionOf x c)

@@ -14,7 +14,8 @@ use Rattle.words.specs.Decide.{does, does-true}
 use Rattle.rules.specs.Limits.{pageBytes, stateBytes}
 use Rattle.rules.specs.Decode.{moduleOf}
 use Rattle.rules.specs.Module.{Module}
-use Rattle.rules.specs.Flat.{size}
+use Rattle.rules.specs.Types.{live}
+use Rattle.rules.specs.Flat.{Layout, count, flat}
 use Rattle.rules.specs.State.{allPages, View, view, pagePlace}
 use Rattle.rules.specs.Heap.{typeOf}
 use Rattle.rules.specs.StateTest.{decPasses}
@@ -63,14 +64,15 @@ data Finds (s : Bytes) (a : ℕ) : rules.Part → Type 0 where
 finds-in : (m : Module) (v : View) (s : Bytes) (a x : ℕ) → length s ≡ stateBytes → Finds s a (rules.objectIn m v a x)
 unfolding rules.objectIn
 finds-in m v s a zero l = nothing
-finds-in m v s a (suc r) l = go (size m (typeOf m (v .fn) (v .map) (v .frames) r))
+finds-in m v s a (suc r) l = go (flat m (typeOf m (v .fn) (v .map) (v .frames) r))
   where
-    found : (n : ℕ) (b : Bool) → ltb 0 n && leb (n * suc (a % pageBytes / n)) pageBytes ≡ b → Finds s a (cond b (partAround n a) rules.emptyPart)
-    found n true e = object (ltb-true 0 n (both (ltb 0 n) (leb (n * suc (a % pageBytes / n)) pageBytes) e .0)) l
-    found n false e = nothing
+    found : (n : ℕ) (some b : Bool) → (ltb 0 n && some) && leb (n * suc (a % pageBytes / n)) pageBytes ≡ b → Finds s a (cond b (partAround n a) rules.emptyPart)
+    found n some true e = object (ltb-true 0 n (both (ltb 0 n) some (both (ltb 0 n && some) (leb (n * suc (a % pageBytes / n)) pageBytes) e .0) .0)) l
+    found n some false e = nothing
 
-    go : (n : ℕ) → Finds s a (cond (ltb 0 n && leb (n * suc (a % pageBytes / n)) pageBytes) (partAround n a) rules.emptyPart)
-    go n = found n (ltb 0 n && leb (n * suc (a % pageBytes / n)) pageBytes) refl
+    go : (L : Layout live)
+        → Finds s a (cond ((ltb 0 (L .size) && ltb 0 (count L)) && leb (L .size * suc (a % pageBytes / L .size)) pageBytes) (partAround (L .size) a) rules.emptyPart)
+    go L = found (L .size) (ltb 0 (count L)) ((ltb 0 (L .size) && ltb 0 (count L)) && leb (L .size * suc (a % pageBytes / L .size)) pageBytes) refl
 
 object-finds : (f s : Bytes) (a : ℕ) → Finds s a (rules.objectOf f s a)
 unfolding rules.objectAt

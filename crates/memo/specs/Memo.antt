@@ -1,35 +1,39 @@
 -- What is remembered of runs: a byte for each distance into an object, 0 where nobody has asked. Assumes nothing.
 use mathlib.Core.Path.{_≡_, sym, ap, _∙_}
-use mathlib.Core.Bool.{Bool, true, false}
+use mathlib.Core.Bool.{Bool, true, false, not, _&&_}
 use mathlib.Core.Logic.{_≢_, ⊎-elim}
 use Prim.Native.Nat.{ℕ, _+_, _*_, _/_, _%_, _<_, _≤_}
 use native.Mathlib.Nat.{mod-le}
 use native.Mathlib.Decide.{ℕ-discrete}
 use native.Mathlib.Omega.{arith}
 use lib.Dec.{eqb}
+use borrow.Author.Tests.{eqb-true, eqb-false, not-true}
 use lib.ListN.{length, set, replicate, length-set}
 use lib.Seq.{getD-set-same, getD-set-other}
 use Rattle.words.specs.Bytes.{Bytes, byteAt}
 use Rattle.words.specs.ByteLaws.{byte-past}
-use Rattle.words.specs.Choose.{lt-or-le}
+use Rattle.words.specs.Choose.{lt-or-le, both}
 use Rattle.words.specs.Decide.{does, does-true, true-does}
 use Rattle.rules.specs.Limits.{sizeLimit}
+use Rattle.rules.specs.File.{untypedMark}
 use Rattle.rules.specs.Types.{RegionKind, variable, live, Tree, sub, decTree}
 use Rattle.rules.specs.Module.{Module}
 use Rattle.rules.specs.Flat.{flat, size, decRun, positionAt}
 use Rattle.rules.specs.Decode.{moduleOf}
-use Rattle.layout.specs.Prims.{has-some}
-use Rattle.layout.specs.Flat.{distance-zero, filled}
+use Rattle.layout.specs.Flat.{Plain, PlainFields, distance-zero, sized-some, size-sub}
 use Rattle.layout.specs.Runs.{same-run}
 use Rattle.state.specs.Frames.{zeros-zero}
 use Rattle.terms.specs.Heads.{placeOf, treeAt}
 use Rattle.terms.specs.Extents.{Terms}
 use Rattle.terms.specs.ExtentLaws.{module-term}
+use Rattle.terms.specs.Readers.{entryType, entry-term}
+use Rattle.terms.specs.Plain.{plain-sub, plain-term, plain-fields}
 use Rattle.terms.specs.Compare.{under}
 use Rattle.equality.specs.Equal.{placesSame}
-use Rattle.runs.specs.Runs.{RunAtIs, InPageIs, page-none, page-past, page-in, size-under}
+use Rattle.runs.specs.Runs.{RunAtIs, InPageIs, page-none, page-past, page-in}
 
--- m remembers at which distances of term u under p the run of term t under q stands: 1 where it does, another number where not
+-- m remembers at which distances of the type u of a region under p the run of term t under q stands: 1 where it does, another number
+-- where not
 pub record Remembers (f : Bytes) (u : ℕ) (p : Bytes) (t : ℕ) (q m : Bytes) : Type 0 where
   pub each : (o : ℕ) → o < 256 → byteAt m o ≢ 0 → RunAtIs f u p o t q (eqb (byteAt m o) 1)
 
@@ -37,9 +41,9 @@ pub record Remembers (f : Bytes) (u : ℕ) (p : Bytes) (t : ℕ) (q m : Bytes) :
 pub record Forgotten (m : Bytes) : Type 0 where
   pub each : (o : ℕ) → o < 256 → byteAt m o ≡ 0
 
--- objects of term u have this size
+-- objects of type u have this size
 pub record SizeIs (f : Bytes) (u z : ℕ) : Type 0 where
-  pub is : z ≡ size (moduleOf f) (moduleOf f .term u)
+  pub is : z ≡ size (moduleOf f) (entryType f u)
   pub small : z ≤ 257
 
 -- how an answer is remembered
@@ -77,8 +81,8 @@ pub rest-few : (x z : ℕ) → x < 256 → x % z < 256
 rest-few x z h = let l = mod-le x z in omega arith
 
 module _ {f : Bytes} {u z : ℕ} (w : SizeIs f u z) (p : Bytes) (x t : ℕ) (q : Bytes) where
-  is : (k : RegionKind) → z ≡ flat (moduleOf f) (sub (under {k = k} p) (moduleOf f .term u)) .size
-  is k = w .is ∙ size-under k f p u
+  is : (k : RegionKind) → z ≡ flat (moduleOf f) (sub (under {k = k} p) (entryType f u)) .size
+  is k = w .is ∙ sym (size-sub (under {k = k} p) (moduleOf f) (entryType f u))
 
   pub in-none : z ≡ 0 → InPageIs f u p x t q false
   in-none e = (page-none _ x _ z (is variable) e, page-none _ x _ z (is live) e)
@@ -91,10 +95,10 @@ module _ {f : Bytes} {u z : ℕ} (w : SizeIs f u z) (p : Bytes) (x t : ℕ) (q :
 
 -- ---- at the start of an object of that very type
 
-whole-stands : {j : RegionKind} (m : Module) (T U : Tree j) → T ≡ U → 0 < size m T → size m T ≤ sizeLimit → true ≡ does (decRun (flat m T) (positionAt (flat m T) 0) (flat m U))
-whole-stands m T U e h l =
+whole-stands : {j : RegionKind} (m : Module) → PlainFields m → (T U : Tree j) → Plain T → T ≡ U → 0 < size m T → size m T ≤ sizeLimit → true ≡ does (decRun (flat m T) (positionAt (flat m T) 0) (flat m U))
+whole-stands m plain T U p e h l =
     sym (true-does (decRun (flat m T) (positionAt (flat m T) 0) (flat m U))
-    (same-run (flat m T) (flat m U) (distance-zero m T l) (record { some = has-some (filled m T l 0 h .has); equal = ap (λ (X : Tree _). flat m X .prims) e })))
+    (same-run (flat m T) (flat m U) (distance-zero m plain T p l) (record { some = sized-some m plain T p l h; equal = ap (λ (X : Tree _). flat m X .prims) e })))
 
 pub same-tree : (j : RegionKind) (f : Bytes) {n a b : ℕ} (u t : ℕ) (p q : Bytes) → Terms f n → a ≡ placeOf n u → b ≡ placeOf n t → placesSame j f a p b q ≡ true
     → sub (under {k = j} p) (moduleOf f .term u) ≡ sub (under q) (moduleOf f .term t)
@@ -104,12 +108,19 @@ same-tree j f {n} {a} {b} u t p q terms ea eb h =
     ∙ does-true (decTree (sub (under {k = j} p) (treeAt f a)) (sub (under q) (treeAt f b))) h
     ∙ sym (ap (sub (under {k = j} q)) (module-term f n terms t ∙ ap (treeAt f) (sym eb)))
 
-pub run-whole : {f : Bytes} {n a b u z : ℕ} (o t : ℕ) (p q : Bytes) {r : Bool} → Terms f n → SizeIs f u z → 0 < z → z ≤ sizeLimit → o ≡ 0 → a ≡ placeOf n u → b ≡ placeOf n t
-    → (r ≡ placesSame variable f a p b q) × (r ≡ placesSame live f a p b q) → r ≡ true → RunAtIs f u p o t q true
-run-whole {f} {n} {a} {b} {u} {z} o t p q terms w h l eo ea eb e er =
-    rw eo (
-      let i : z ≡ size (moduleOf f) (sub (under {k = variable} p) (moduleOf f .term u)) = w .is ∙ size-under variable f p u in
-          whole-stands (moduleOf f) _ _ (same-tree variable f u t p q terms ea eb (sym (e .0) ∙ er)) (omega (arith, i)) (omega (arith, i)),
-      let i : z ≡ size (moduleOf f) (sub (under {k = live} p) (moduleOf f .term u)) = w .is ∙ size-under live f p u in
-          whole-stands (moduleOf f) _ _ (same-tree live f u t p q terms ea eb (sym (e .1) ∙ er)) (omega (arith, i)) (omega (arith, i)),
+pub run-whole : {f : Bytes} {n a b u z : ℕ} (o t : ℕ) (p q : Bytes) {r : Bool} → Terms f n → SizeIs f u z → 0 < z → z ≤ sizeLimit → eqb o 0 && not (eqb u untypedMark) ≡ true
+    → a ≡ placeOf n u → b ≡ placeOf n t → (r ≡ placesSame variable f a p b q) × (r ≡ placesSame live f a p b q) → r ≡ true → RunAtIs f u p o t q true
+run-whole {f} {n} {a} {b} {u} {z} o t p q terms w h l start ea eb e er =
+    let d = both (eqb o 0) (not (eqb u untypedMark)) start in
+    let typed : entryType f u ≡ moduleOf f .term u = entry-term f u (eqb-false u untypedMark (not-true (eqb u untypedMark) (d .1))) in
+    rw (eqb-true o 0 (d .0), typed) (
+      stands variable typed (same-tree variable f u t p q terms ea eb (sym (e .0) ∙ er)),
+      stands live typed (same-tree live f u t p q terms ea eb (sym (e .1) ∙ er)),
     )
+  where
+    stands : (k : RegionKind) → entryType f u ≡ moduleOf f .term u → sub (under {k = k} p) (moduleOf f .term u) ≡ sub (under q) (moduleOf f .term t)
+        → true ≡ does (decRun (flat (moduleOf f) (sub (under {k = k} p) (moduleOf f .term u))) (positionAt (flat (moduleOf f) (sub (under {k = k} p) (moduleOf f .term u))) 0) (flat (moduleOf f) (sub (under q) (moduleOf f .term t))))
+    stands k typed same =
+        let T : Tree k = sub (under {k = k} p) (moduleOf f .term u) in
+        let i : z ≡ size (moduleOf f) T = w .is ∙ ap (size (moduleOf f)) typed ∙ sym (size-sub (under {k = k} p) (moduleOf f) (moduleOf f .term u)) in
+        whole-stands (moduleOf f) (plain-fields f) T _ (plain-sub (under {k = k} p) (moduleOf f .term u) (plain-term f u)) same (omega (arith, i)) (omega (arith, i))

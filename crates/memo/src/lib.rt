@@ -8,6 +8,7 @@ ghost use Rattle.memo.specs.Memo.{Forgotten, Noted, Remembers, SizeIs};
 use rules::limits::SIZE_LIMIT;
 use state::Machine;
 use terms::Live;
+use terms::UNTYPED;
 
 // Of a distance: nobody has asked yet, a run stands there, none does.
 const UNKNOWN: u8 = 0;
@@ -33,8 +34,8 @@ pub fn forget(memo: &mut [u8; SIZE_LIMIT])
     }
 }
 
-// Whether the run of term t under q stands at byte o of term u under p, whose objects have this size: at the start of an object of that
-// very type it does.
+// Whether the run of term t under q stands at byte o of the type u of a region under p, whose objects have this size: at the start of an
+// object of that very type it does.
 fn run_found(
     f: &[u8],
     n: usize,
@@ -50,7 +51,8 @@ fn run_found(
     requires { ⌜ (Table (now f) n k (now tab)) × (length (now p) ≤ 8) × (length (now q) ≤ 8) × (SizeIs (now f) u size) × (0 < size) × (size ≤ sizeLimit) ⌝ }
     ensures { λ r. ⌜ RunAtIs (now (f .entry)) u (now (p .entry)) o t (now (q .entry)) r ⌝ }
 {
-    if o == 0 {
+    // (the mark of an untyped region names no term: it would be compared as i8)
+    if (o == 0) & (u != UNTYPED) {
         if equality::same_places(f, terms::place_of(n, u), p, terms::place_of(n, t), q) {
             return true;
         }
@@ -84,7 +86,7 @@ fn run_known(
     stands
 }
 
-// As runs' `stands`, where the objects of term u have this size.
+// As runs' `stands`, where the objects of type u have this size.
 pub fn stands_known(
     f: &[u8],
     n: usize,

@@ -1,25 +1,32 @@
 -- Where a live region's type stands: the highest frame that has it among its local regions, and there the last. For any bytes this is
 -- the type that rules' Heap gives it. Assumes nothing.
-use mathlib.Core.Path.{_≡_, refl, sym, ap, _∙_}
-use mathlib.Core.Bool.{Bool, true, false, cond, _&&_}
-use mathlib.Core.Logic.{_≢_}
+use mathlib.Core.Path.{_≡_, refl, sym, ap, ap₂, _∙_}
+use mathlib.Core.Bool.{Bool, true, false, cond, _&&_, and-true}
+use mathlib.Core.List.{map}
+use mathlib.Core.Logic.{_≢_, inl, inr}
 use Prim.Native.Nat.{ℕ, zero, suc, _+_, _-_, _*_, _/_, _%_, _<_, _≤_}
 use native.Mathlib.Nat.{mul-suc, mul-comm}
 use native.Mathlib.Omega.{arith}
 use lib.Dec.{eqb, ltb, leb}
 use borrow.Author.Tests.{eq-eqb, ne-eqb, lt-ltb, le-leb, lt-leb}
 use Rattle.words.specs.Bytes.{Bytes}
-use Rattle.words.specs.Choose.{cond-split}
-use Rattle.rules.specs.Limits.{pageBytes}
-use Rattle.rules.specs.File.{recordOf, entryOf}
-use Rattle.rules.specs.Types.{live, Tree, int}
-use Rattle.rules.specs.Flat.{flat, flatWith, size}
+use Rattle.words.specs.Choose.{cond-split, and-no}
+use Rattle.rules.specs.Limits.{pageBytes, sizeLimit}
+use Rattle.rules.specs.File.{recordOf, entryOf, untypedMark}
+use Rattle.rules.specs.Types.{RegionKind, variable, live, Region, Tree, int, ptr, arr, struct, rawPtr, bytes, sub, arg}
+use Rattle.rules.specs.Flat.{Layout, count, none as noLayout, copiesOf, copies, flat, flatWith}
+use Rattle.rules.specs.Module.{Module}
 use Rattle.rules.specs.Decode.{moduleOf, functionOf, startOf}
 use Rattle.rules.specs.State.{view, pagePlace, pageOwner, frameFunction, frameMap}
 use Rattle.rules.specs.Heap.{close, look, typeOf}
 use Rattle.rules.specs.Host.{Part, emptyPart, objectIn}
 use Rattle.rules.specs.declared.Record.{Record}
-use Rattle.layout.specs.Flat.{size-sub}
+use Rattle.layout.specs.Prims.{count-sub, count-copiesOf}
+use Rattle.layout.specs.Flat.{flat-bytes, size-sub}
+use Rattle.terms.specs.Extents.{Small}
+use Rattle.terms.specs.Readers.{entryType, entry-term, entry-bytes}
+use Rattle.terms.specs.declared.Extent.{Extent}
+use Rattle.positions.specs.Table.{exactOf}
 use Rattle.stack.specs.Facts.{functionAt, headAt, params-at, locals-at}
 use Rattle.objects.specs.declared.Home.{Home}
 use Rattle.objects.specs.declared.Area.{Area}
@@ -43,9 +50,9 @@ unfoldable pub frameOf : Bytes → Bytes → ℕ → ℕ → ℕ
 frameOf f s zero r = 0
 frameOf f s (suc k) r = orElse (lastLocal f s k r) (suc k) (frameOf f s k r)
 
--- the term of region variable i of frame k's function
-unfoldable pub termAt : Bytes → Bytes → ℕ → ℕ → ℕ
-termAt f s k i = entryOf (recordOf f (startOf f (frameFunction s k) + 1)) i
+-- what record 8 says of region variable i of frame k's function: a term, or 255
+unfoldable pub entryAt : Bytes → Bytes → ℕ → ℕ → ℕ
+entryAt f s k i = entryOf (recordOf f (startOf f (frameFunction s k) + 1)) i
 
 -- ---- one step of each scan, from the top
 
@@ -108,9 +115,9 @@ local-by f s k r {h} {a} {n} {j} eh ea en l ej =
     let pn : n ≡ headAt f s k .b = en ∙ ap (λ (x : Record). x .b) eh in
     (ej ∙ rw (pa, pn), (let b = last-le (frameMap s k) a r n in omega arith))
 
-pub term-is : (f s : Bytes) (k i : ℕ) {g h t : ℕ} {x : Record} → g ≡ frameFunction s k → h ≡ startOf f g → x ≡ recordOf f (h + 1) → t ≡ entryOf x i → t ≡ termAt f s k i
-unfolding termAt
-term-is f s k i eg eh ex et = et ∙ ap (λ (x : Record). entryOf x i) (ex ∙ rw (eh, eg))
+pub entry-is : (f s : Bytes) (k i : ℕ) {g h v : ℕ} {x : Record} → g ≡ frameFunction s k → h ≡ startOf f g → x ≡ recordOf f (h + 1) → v ≡ entryOf x i → v ≡ entryAt f s k i
+unfolding entryAt
+entry-is f s k i eg eh ex et = et ∙ ap (λ (x : Record). entryOf x i) (ex ∙ rw (eh, eg))
 
 -- ---- the type
 
@@ -133,8 +140,8 @@ module _ (f s : Bytes) where
   abbrev pub regionTree : ℕ → ℕ → Tree live
   regionTree n r = typeOf (moduleOf f) (frameFunction s) (frameMap s) n r
 
-  tree-at : (k i : ℕ) → functionAt f s k .regionType i ≡ moduleOf f .term (termAt f s k i)
-  unfolding moduleOf functionOf termAt startOf
+  tree-at : (k i : ℕ) → functionAt f s k .regionType i ≡ entryType f (entryAt f s k i)
+  unfolding moduleOf functionOf entryAt startOf
   tree-at k i = refl
 
   -- one frame more
@@ -156,14 +163,14 @@ module _ (f s : Bytes) where
 
   -- r is local to frame k: entry i there
   pub tree-some : (n r k j : ℕ) → frameOf f s n r ≡ suc k → lastLocal f s k r ≡ suc j
-      → regionTree n r ≡ close (frameMap s k) (moduleOf f .term (termAt f s k (headAt f s k .a + j)))
+      → regionTree n r ≡ close (frameMap s k) (entryType f (entryAt f s k (headAt f s k .a + j)))
   unfolding frameOf orElse typeOf byLast
   tree-some zero r k j e l = absurd (let d : 0 ≡ suc k = e in omega arith)
   tree-some (suc n) r k j e l = go (lastLocal f s n r) refl (tree-some n r k j)
     where
       go : (i : ℕ) → lastLocal f s n r ≡ i
-          → (frameOf f s n r ≡ suc k → lastLocal f s k r ≡ suc j → regionTree n r ≡ close (frameMap s k) (moduleOf f .term (termAt f s k (headAt f s k .a + j))))
-          → regionTree (suc n) r ≡ close (frameMap s k) (moduleOf f .term (termAt f s k (headAt f s k .a + j)))
+          → (frameOf f s n r ≡ suc k → lastLocal f s k r ≡ suc j → regionTree n r ≡ close (frameMap s k) (entryType f (entryAt f s k (headAt f s k .a + j))))
+          → regionTree (suc n) r ≡ close (frameMap s k) (entryType f (entryAt f s k (headAt f s k .a + j)))
       go zero q ih = (rw q at (more n r)) ∙ ih (rw q at e) l
       go (suc i) q ih =
           let d : n ≡ k = (let z : suc n ≡ suc k = rw q at e in omega arith) in
@@ -187,15 +194,15 @@ module _ (f s : Bytes) where
 
 pub record HomeIs (f s : Bytes) (n r : ℕ) (h : Home) : Type 0 where
   pub none : h .frame ≡ 0 → regionTree f s n r ≡ int 0
-  pub some : (k : ℕ) → h .frame ≡ suc k → (k < n) × (regionTree f s n r ≡ close (frameMap s k) (moduleOf f .term (h .term)))
+  pub some : (k : ℕ) → h .frame ≡ suc k → (k < n) × (regionTree f s n r ≡ close (frameMap s k) (entryType f (h .entry)))
 
-pub home-none : {f s : Bytes} {n r k t : ℕ} → k ≡ frameOf f s n r → k ≡ 0 → HomeIs f s n r (record { frame = k; term = t })
+pub home-none : {f s : Bytes} {n r k v : ℕ} → k ≡ frameOf f s n r → k ≡ 0 → HomeIs f s n r (record { frame = k; entry = v })
 home-none {f} {s} {n} {r} e z =
     record { none = λ q. tree-none f s n r (sym e ∙ z); some = λ k q. absurd (let d : 0 ≡ suc k = sym z ∙ q in omega arith) }
 
-pub home-some : {f s : Bytes} {n r k i a t : ℕ} {h : Record} → k ≡ frameOf f s n r → k ≢ 0 → i ≡ lastLocal f s (k - 1) r → h ≡ headAt f s (k - 1) → a ≡ h .a
-    → t ≡ termAt f s (k - 1) (a + (i - 1)) → HomeIs f s n r (record { frame = k; term = t })
-home-some {f} {s} {n} {r} {k} {i} {a} {t} {h} e z l eh ea et =
+pub home-some : {f s : Bytes} {n r k i a v : ℕ} {h : Record} → k ≡ frameOf f s n r → k ≢ 0 → i ≡ lastLocal f s (k - 1) r → h ≡ headAt f s (k - 1) → a ≡ h .a
+    → v ≡ entryAt f s (k - 1) (a + (i - 1)) → HomeIs f s n r (record { frame = k; entry = v })
+home-some {f} {s} {n} {r} {k} {i} {a} {v} {h} e z l eh ea et =
     record {
       none = λ q. absurd (z q);
       some = λ j q.
@@ -213,17 +220,55 @@ local-some f s n r {k} e z l =
     let h = frame-has f s n r (k - 1) (sym e ∙ q) .1 in
     omega (arith, l)
 
--- ---- its size
+-- ---- what its objects are
 
-pub size-none : {f s : Bytes} {n r : ℕ} {h : Home} → HomeIs f s n r h → h .frame ≡ 0 → 0 ≡ size (moduleOf f) (regionTree f s n r)
+-- of a type that a term or 255 says
+pub extent-untyped : (f : Bytes) (v : ℕ) → v ≡ untypedMark
+    → (record { size = 1; count = 0 } ≡ exactOf (flat (moduleOf f) (entryType f v))) × Small (record { size = 1; count = 0 })
+extent-untyped f v e = (
+  sym (ap (λ (T : Tree variable). exactOf (flat (moduleOf f) T)) (entry-bytes f v e) ∙ ap (λ (L : Layout variable). exactOf L) (flat-bytes (moduleOf f))),
+  (omega arith, omega arith),
+)
+
+pub extent-typed : (f : Bytes) (v : ℕ) {e : Extent} → v ≢ untypedMark → (e ≡ exactOf (flat (moduleOf f) (moduleOf f .term v))) × Small e
+    → (e ≡ exactOf (flat (moduleOf f) (entryType f v))) × Small e
+extent-typed f v d h = (h .0 ∙ ap (λ (T : Tree variable). exactOf (flat (moduleOf f) T)) (sym (entry-term f v d)), h .1)
+
+-- regions put for variables change neither size nor number
+count-copies : {k : RegionKind} (n : ℕ) (L : Layout k) → count (copies n L) ≡ cond (leb (n * L .size) sizeLimit) (n * count L) 0
+unfolding copies
+count-copies n L = go (leb (n * L .size) sizeLimit)
+  where
+    go : (b : Bool) → count (cond b (copiesOf n L) noLayout) ≡ cond b (n * count L) 0
+    go true = count-copiesOf n L
+    go false = refl
+
+module _ {j k : RegionKind} (σ : Region j → Region k) (m : Module) where
+  number-sub : (T : Tree j) → count (flat m (sub σ T)) ≡ count (flat m T)
+  unfolding flat flatWith sub
+  number-sub (int w) = refl
+  number-sub (ptr T r) = refl
+  number-sub (arr n T) =
+      count-copies n (flat m (sub σ T)) ∙ ap₂ (λ (x y : ℕ). cond (leb (n * x) sizeLimit) (n * y) 0) (size-sub σ m T) (number-sub T)
+      ∙ sym (count-copies n (flat m T))
+  number-sub (struct N rs) = count-sub (arg (map σ rs)) _ ∙ sym (count-sub (arg rs) _)
+  number-sub (rawPtr n r) = refl
+  number-sub bytes = refl
+
+  extent-sub : (T : Tree j) → exactOf (flat m (sub σ T)) ≡ exactOf (flat m T)
+  extent-sub T = ap₂ {C = Extent} (λ (z c : ℕ). record { size = z; count = c }) (size-sub σ m T) (number-sub T)
+
+-- of region r
+pub extent-none : {f s : Bytes} {n r : ℕ} {h : Home} → HomeIs f s n r h → h .frame ≡ 0
+    → (record { size = 0; count = 1 } ≡ exactOf (flat (moduleOf f) (regionTree f s n r))) × Small (record { size = 0; count = 1 })
 unfolding flat flatWith
-size-none {f} w e = rw (w .none e)
+extent-none {f} w e = (rw (w .none e) refl, (omega arith, omega arith))
 
-pub size-some : {f s : Bytes} {n r z : ℕ} {h : Home} → HomeIs f s n r h → h .frame ≢ 0 → z ≡ size (moduleOf f) (moduleOf f .term (h .term))
-    → z ≡ size (moduleOf f) (regionTree f s n r)
-size-some {f} {s} {n} {r} {z} {h} w d e =
+pub extent-some : {f s : Bytes} {n r : ℕ} {h : Home} {e : Extent} → HomeIs f s n r h → h .frame ≢ 0 → (e ≡ exactOf (flat (moduleOf f) (entryType f (h .entry)))) × Small e
+    → (e ≡ exactOf (flat (moduleOf f) (regionTree f s n r))) × Small e
+extent-some {f} {s} {n} {r} {h} w d e =
     let q : h .frame ≡ suc (h .frame - 1) = omega (arith, d) in
-    e ∙ sym (ap (size (moduleOf f)) (w .some (h .frame - 1) q .1) ∙ size-sub _ (moduleOf f) (moduleOf f .term (h .term)))
+    (e .0 ∙ sym (ap (λ (T : Tree live). exactOf (flat (moduleOf f) T)) (w .some (h .frame - 1) q .1) ∙ extent-sub _ (moduleOf f) (entryType f (h .entry))), e .1)
 
 -- ---- the object around an address
 
@@ -268,10 +313,24 @@ object-none f s a {p} {o} ep eo z =
     let q : pageOwner s (a / pageBytes) ≡ 0 = rw ep at (sym eo ∙ z) in
     record { offset = rw q; size = rw q }
 
-pub object-some : (f s : Bytes) (a : ℕ) {p x o n z : ℕ} {r : Area} → p ≡ a / pageBytes → x ≡ a % pageBytes → o ≡ pageOwner s p → o ≢ 0 → n ≡ view s .frames
-    → z ≡ size (moduleOf f) (regionTree f s n (o - 1)) → IsPart r (partAt p x z) → IsPart r (objectAround f s a)
+pub object-some : (f s : Bytes) (a : ℕ) {p x o n : ℕ} {e : Extent} {r : Area} → p ≡ a / pageBytes → x ≡ a % pageBytes → o ≡ pageOwner s p → o ≢ 0 → n ≡ view s .frames
+    → e ≡ exactOf (flat (moduleOf f) (regionTree f s n (o - 1))) → e .count ≢ 0 → IsPart r (partAt p x (e .size)) → IsPart r (objectAround f s a)
 unfolding objectAround objectIn partAt view
-object-some f s a {p} {x} {o} {n} {z} ep ex eo d en ez w =
+object-some f s a {p} {x} {o} {n} {e} ep ex eo d en ee some w =
     let q : pageOwner s (a / pageBytes) ≡ suc (o - 1) = (let e : pageOwner s (a / pageBytes) ≡ o = rw ep at (sym eo) in omega (arith, d)) in
-    let t : z ≡ size (moduleOf f) (regionTree f s (view s .frames) (o - 1)) = rw en at ez in
-    rw q (rw (ep, ex, t) at w)
+    let L : Layout live = flat (moduleOf f) (regionTree f s (view s .frames) (o - 1)) in
+    let t : e ≡ exactOf L = rw en at ee in
+    let c : ltb 0 (count L) ≡ true = lt-ltb 0 (count L) (omega (arith, some, ap (λ (y : Extent). y .count) t)) in
+    rw q (rw (c, and-true (ltb 0 (L .size))) (rw (ep, ex, ap (λ (y : Extent). y .size) t) at w))
+
+-- objects without primitives, as in untyped pages, are none
+pub object-bare : (f s : Bytes) (a : ℕ) {p o n : ℕ} {e : Extent} → p ≡ a / pageBytes → o ≡ pageOwner s p → o ≢ 0 → n ≡ view s .frames
+    → e ≡ exactOf (flat (moduleOf f) (regionTree f s n (o - 1))) → e .count ≡ 0 → IsPart (record { offset = 0; size = 0 }) (objectAround f s a)
+unfolding objectAround objectIn view
+object-bare f s a {p} {o} {n} {e} ep eo d en ee none =
+    let q : pageOwner s (a / pageBytes) ≡ suc (o - 1) = (let e : pageOwner s (a / pageBytes) ≡ o = rw ep at (sym eo) in omega (arith, d)) in
+    let L : Layout live = flat (moduleOf f) (regionTree f s (view s .frames) (o - 1)) in
+    let c : count L ≡ 0 = sym (ap (λ (y : Extent). y .count) (rw en at ee)) ∙ none in
+    let g : (ltb 0 (L .size) && ltb 0 (count L)) && leb (L .size * suc (a % pageBytes / L .size)) pageBytes ≡ false
+    = and-no _ _ (inl (and-no (ltb 0 (L .size)) (ltb 0 (count L)) (inr (ap (ltb 0) c)))) in
+    record { offset = rw (q, g); size = rw (q, g) }

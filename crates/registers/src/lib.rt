@@ -4,7 +4,7 @@ ghost use mathlib.Core.Path.{_≡_};
 ghost use Prim.Native.Nat.{ℕ, _<_, _^_};
 ghost use Rattle.rules.specs.Decode.{moduleOf};
 ghost use Rattle.rules.specs.State.{frameMap};
-ghost use Rattle.rules.specs.Heap.{close, Stands};
+ghost use Rattle.rules.specs.Heap.{close, Stands, InUntyped};
 ghost use Rattle.positions.specs.Table.{Table};
 ghost use Rattle.stack.specs.Tells.{Tells};
 ghost use Rattle.stack.specs.Facts.{Known};
@@ -12,10 +12,12 @@ ghost use Rattle.positions.specs.Maps.{Narrow, mapList};
 ghost use Rattle.registers.specs.Value.{typingOf};
 ghost use Rattle.registers.specs.Registers.{ValueOk, RegisterOk, RegistersOk, AllRegisters, registerTerm};
 use memo::stands_known;
+use objects::extent_of;
 use objects::home_of;
 use rules::limits::CALLEES;
 use rules::limits::MOST_ENTRIES;
 use rules::limits::SIZE_LIMIT;
+use runs::in_untyped;
 use stack::regions::head;
 use state::Machine;
 use state::RegionVariable;
@@ -95,7 +97,7 @@ fn stands_at(
     let p = map_of(s, frame - 1);
     let q = map_of(s, k);
     let owner = state::total::owner(s, x / Machine::PAGE_BYTES);
-    let e = positions::extent_at(terms, h.term, tab, f, structs);
+    let e = extent_of(terms, h.entry, tab, f, structs);
     let mut memo = [0u8; SIZE_LIMIT];
     stands_known(
         f,
@@ -103,7 +105,7 @@ fn stands_at(
         structs,
         Live(r),
         owner,
-        h.term,
+        h.entry,
         &p,
         e.size,
         x,
@@ -114,7 +116,30 @@ fn stands_at(
     )
 }
 
-// x is a value of term t under frame k's map.
+// Of n frames: `many` bytes from address x on lie in one page of live region r, which is untyped.
+fn untyped_at(
+    f: &[u8],
+    starts: &[usize; CALLEES],
+    functions: usize,
+    s: &[u8],
+    n: u32,
+    r: u8,
+    many: usize,
+    x: u32,
+) -> bool
+    requires { ⌜ Known (now f) (now starts) functions ⌝ ∗ ⌜ Narrow (now f) ⌝ ∗ ⌜ many < 2 ^ 32 ⌝ }
+    ensures { λ b. ⌜ Tells b (InUntyped (typingOf (now (f .entry)) (now (s .entry)) n) many r x) ⌝ }
+{
+    let h = home_of(f, starts, functions, s, n, words::wide(r));
+    let frame = h.frame;
+    if frame == 0 {
+        return false;
+    }
+    let owner = state::total::owner(s, x / Machine::PAGE_BYTES);
+    in_untyped(Live(r), owner, h.entry, x, many)
+}
+
+// x is a value of term t under frame k's map: of an integer, a pointer or an untyped pointer.
 fn value_ok(
     f: &[u8],
     starts: &[usize; CALLEES],
@@ -136,29 +161,33 @@ fn value_ok(
         let width = number(f, terms, t);
         return fits(width, x);
     }
-    if kind == 2 {
-        if x == 0 {
-            return true;
-        }
-        let variable = target_region(f, terms, t);
-        let r = entry(s, k, words::wide(variable.0));
-        let target = inner(f, terms, t);
-        return stands_at(
-            f,
-            starts,
-            functions,
-            terms,
-            structs,
-            tab,
-            s,
-            n,
-            k,
-            r,
-            target,
-            x,
-        );
+    if (kind != 2) & (kind != 11) {
+        return false;
     }
-    false
+    if x == 0 {
+        return true;
+    }
+    let variable = target_region(f, terms, t);
+    let r = entry(s, k, words::wide(variable.0));
+    if kind == 11 {
+        let many = number(f, terms, t);
+        return untyped_at(f, starts, functions, s, n, r, many, x);
+    }
+    let target = inner(f, terms, t);
+    stands_at(
+        f,
+        starts,
+        functions,
+        terms,
+        structs,
+        tab,
+        s,
+        n,
+        k,
+        r,
+        target,
+        x,
+    )
 }
 
 // ---- registers

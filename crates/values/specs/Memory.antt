@@ -5,30 +5,31 @@ use mathlib.Core.Logic.{_≢_, _⊎_, inl, inr, ⊎-elim}
 use Prim.Native.Nat.{ℕ, zero, suc, _+_, _-_, _*_, _^_, _/_, _<_}
 use native.Mathlib.Nat.{pow-suc}
 use native.Mathlib.Omega.{arith}
+use lib.Dec.{eqb}
 use lib.ListN.{replicate}
+use borrow.Author.Tests.{eqb-true, eqb-false}
 use Rattle.words.specs.Bytes.{Bytes, AllBytes}
 use Rattle.words.specs.Choose.{true-not-false, both}
 use Rattle.rules.specs.Limits.{pageBytes}
-use Rattle.rules.specs.Types.{variable, live, Variable, Region, Tree, int, ptr, arr, struct, form, inner, regionOf, width, sub}
-use Rattle.rules.specs.Module.{Module}
+use Rattle.rules.specs.Types.{variable, live, Variable, Region, Tree, int, ptr, arr, struct, rawPtr, bytes, form, numberOf, inner, regionOf, width, sub}
 use Rattle.rules.specs.Flat.{flat}
 use Rattle.rules.specs.Decode.{moduleOf}
 use Rattle.rules.specs.State.{view, pageOwner, memoryByte, memoryNumber}
-use Rattle.rules.specs.Heap.{HeapTyping, Stands, decStands, Value}
+use Rattle.rules.specs.Heap.{Stands, decStands, InUntyped, Value}
 use Rattle.state.specs.Reads.{memory-lt}
 use Rattle.terms.specs.Compare.{byteUnder, under, under-is}
 use Rattle.equality.specs.Equal.{placesSame}
-use Rattle.terms.specs.Readers.{Inner}
+use Rattle.terms.specs.Readers.{Inner, entryType}
 use Rattle.terms.specs.Heads.{placeOf}
 use Rattle.terms.specs.Extents.{Small, Terms}
 use Rattle.terms.specs.declared.Extent.{Extent}
 use Rattle.positions.specs.Table.{exactOf}
 use Rattle.runs.specs.Runs.{StandsIs}
-use Rattle.stack.specs.Tells.{Tells, tells-map, tells-yes, does-tells}
+use Rattle.stack.specs.Tells.{Tells, tells-map, tells-yes, tells-no, does-tells}
 use Rattle.objects.specs.Homes.{HomeIs}
 use Rattle.objects.specs.declared.Home.{Home}
-use Rattle.positions.specs.Maps.{Narrow, mapList, under-close}
-use Rattle.registers.specs.Value.{typingOf}
+use Rattle.positions.specs.Maps.{Narrow, mapList}
+use Rattle.registers.specs.Value.{typingOf, value-int, value-ptr, value-raw, type-some, stands-none, untyped-none}
 use Rattle.memo.specs.Memo.{SizeIs, Remembers, Forgotten, remembers-none, remembers-nothing, same-tree}
 use Rattle.values.specs.declared.memory.Target.{Target}
 use Rattle.values.specs.declared.memory.Aim.{Aim}
@@ -62,75 +63,120 @@ word-is s x {a} {b} {c} {d} ea eb ec ed =
 pub record PrimitiveAt (f s : Bytes) (n : ℕ) (to : Bytes) (t x : ℕ) : Type 0 where
   pub is : Value (moduleOf f) (typingOf f s n) (sub (under to) (moduleOf f .term t)) (memoryNumber (view s .memory) x (width (sub (under {k = live} to) (moduleOf f .term t))))
 
-module _ (m : Module) (W : HeapTyping) (σ : Variable → Region live) (mem : ℕ → ℕ) (x : ℕ) where
-  integer : (T : Tree variable) → form T ≡ 1 → ((w : ℕ) → memoryNumber mem x w < 256 ^ w) → Value m W (sub σ T) (memoryNumber mem x (width (sub σ T)))
+-- how many bytes hold it
+module _ (σ : Variable → Region live) where
+  width-integer : (T : Tree variable) → form T ≡ 1 → width (sub σ T) ≡ numberOf T
   unfolding sub
-  integer (int w) e h = h w
-  integer (ptr U r) e h = absurd (let d : _≡_ {A = ℕ} 2 1 = e in omega arith)
-  integer (arr n U) e h = absurd (let d : _≡_ {A = ℕ} 3 1 = e in omega arith)
-  integer (struct N rs) e h = absurd (let d : _≡_ {A = ℕ} 4 1 = e in omega arith)
+  width-integer (int w) e = refl
+  width-integer (ptr U r) e = absurd (let d : _≡_ {A = ℕ} 2 1 = e in omega arith)
+  width-integer (arr n U) e = absurd (let d : _≡_ {A = ℕ} 3 1 = e in omega arith)
+  width-integer (struct N rs) e = absurd (let d : _≡_ {A = ℕ} 4 1 = e in omega arith)
+  width-integer (rawPtr n r) e = absurd (let d : _≡_ {A = ℕ} 11 1 = e in omega arith)
+  width-integer bytes e = absurd (let d : _≡_ {A = ℕ} 0 1 = e in omega arith)
 
-  pointer : {b : Bool} (T : Tree variable) → form T ≡ 2
-      → Tells b ((memoryNumber mem x 4 ≡ 0) ⊎ Stands m W (sub σ (inner T)) (σ (regionOf T) .number) (memoryNumber mem x 4))
-      → Tells b (Value m W (sub σ T) (memoryNumber mem x (width (sub σ T))))
+  width-pointer : (T : Tree variable) → (form T ≡ 2) ⊎ (form T ≡ 11) → width (sub σ T) ≡ 4
   unfolding sub
-  pointer (int w) e t = absurd (let d : _≡_ {A = ℕ} 1 2 = e in omega arith)
-  pointer (ptr U r) e t = t
-  pointer (arr n U) e t = absurd (let d : _≡_ {A = ℕ} 3 2 = e in omega arith)
-  pointer (struct N rs) e t = absurd (let d : _≡_ {A = ℕ} 4 2 = e in omega arith)
+  width-pointer (int w) e = absurd (⊎-elim (λ (d : _≡_ {A = ℕ} 1 2). omega arith) (λ (d : _≡_ {A = ℕ} 1 11). omega arith) e)
+  width-pointer (ptr U r) e = refl
+  width-pointer (arr n U) e = absurd (⊎-elim (λ (d : _≡_ {A = ℕ} 3 2). omega arith) (λ (d : _≡_ {A = ℕ} 3 11). omega arith) e)
+  width-pointer (struct N rs) e = absurd (⊎-elim (λ (d : _≡_ {A = ℕ} 4 2). omega arith) (λ (d : _≡_ {A = ℕ} 4 11). omega arith) e)
+  width-pointer (rawPtr n r) e = refl
+  width-pointer bytes e = absurd (⊎-elim (λ (d : _≡_ {A = ℕ} 0 2). omega arith) (λ (d : _≡_ {A = ℕ} 0 11). omega arith) e)
 
-module _ {f s : Bytes} {n : ℕ} {to : Bytes} {t x : ℕ} where
-  pub integer-at : AllBytes s → form (moduleOf f .term t) ≡ 1 → PrimitiveAt f s n to t x
-  integer-at all e = record { is = integer (moduleOf f) (typingOf f s n) (under to) (view s .memory) x (moduleOf f .term t) e (memory-fits s all x) }
+pub integer-at : {f s : Bytes} {n : ℕ} {to : Bytes} {t x : ℕ} → AllBytes s → form (moduleOf f .term t) ≡ 1 → PrimitiveAt f s n to t x
+integer-at {f} {s} {n} {to} {t} {x} all e =
+    let T : Tree variable = moduleOf f .term t in
+    record { is = rw (width-integer (under to) T e) (value-int (moduleOf f) (typingOf f s n) (under to) T e (tells-yes (memory-fits s all x (numberOf T))) .holds refl) }
 
 -- ---- where pointers of term t under `to` lead: found once for all places of a region's pages
 
-pub record TargetIs (f s : Bytes) (n : ℕ) (to : Bytes) (t : ℕ) (g : Target) : Type 0 where
-  pub pointer : form (moduleOf f .term t) ≡ 2
-  pub region : g .region ≡ byteUnder to (regionOf (moduleOf f .term t) .number)
-  pub run : moduleOf f .term (g .run) ≡ inner (moduleOf f .term t)
-  pub home : HomeIs f s n (g .region) (record { frame = g .frame; term = g .term })
-  pub map : g .frame ≢ 0 → g .map ≡ mapList s (g .frame - 1)
-  pub size : SizeIs f (g .term) (g .size)
+-- term t is one of pointers, typed or untyped
+abbrev pub Points : Bytes → ℕ → Type 0
+Points f t = (form (moduleOf f .term t) ≡ 2) ⊎ (form (moduleOf f .term t) ≡ 11)
 
-pub target-is : {f s : Bytes} {n : ℕ} {to : Bytes} {t u r w run : ℕ} {h : Home} {map : Bytes} {e : Extent} → form (moduleOf f .term t) ≡ 2 → u ≡ regionOf (moduleOf f .term t) .number → r ≡ byteUnder to u
-    → w ≡ r → HomeIs f s n w h → (h .frame ≢ 0 → map ≡ mapList s (h .frame - 1)) → (e ≡ exactOf (flat (moduleOf f) (moduleOf f .term (h .term)))) × Small e → Inner f (moduleOf f .term t) run
-    → TargetIs f s n to t (record { region = r; frame = h .frame; term = h .term; map = map; size = e .size; run = run })
-target-is {f} {s} {n} {to} {h = h} e eu er ew home em ee i =
+-- r is the term of the run that they lead to, or the number of their bytes
+pub record RunOf (f : Bytes) (t : ℕ) (raw : Bool) (r : ℕ) : Type 0 where
+  pub typed : raw ≡ false → Inner f (moduleOf f .term t) r
+  pub untyped : raw ≡ true → r ≡ numberOf (moduleOf f .term t)
+
+pub run-typed : {f : Bytes} {t : ℕ} {raw : Bool} {r : ℕ} → raw ≡ false → Inner f (moduleOf f .term t) r → RunOf f t raw r
+run-typed e i = record { typed = λ h. i; untyped = λ h. absurd (true-not-false h e) }
+
+pub run-untyped : {f : Bytes} {t : ℕ} {raw : Bool} {r : ℕ} → raw ≡ true → r ≡ numberOf (moduleOf f .term t) → RunOf f t raw r
+run-untyped e i = record { typed = λ h. absurd (true-not-false e h); untyped = λ h. i }
+
+pub record TargetIs (f s : Bytes) (n : ℕ) (to : Bytes) (t : ℕ) (g : Target) : Type 0 where
+  pub typed : g .raw ≡ false → (form (moduleOf f .term t) ≡ 2) × (moduleOf f .term (g .run) ≡ inner (moduleOf f .term t))
+  pub untyped : g .raw ≡ true → (form (moduleOf f .term t) ≡ 11) × (g .run ≡ numberOf (moduleOf f .term t))
+  pub region : g .region ≡ byteUnder to (regionOf (moduleOf f .term t) .number)
+  pub home : HomeIs f s n (g .region) (record { frame = g .frame; entry = g .entry })
+  pub map : g .frame ≢ 0 → g .map ≡ mapList s (g .frame - 1)
+  pub size : SizeIs f (g .entry) (g .size)
+
+pub target-is : {f s : Bytes} {n : ℕ} {to : Bytes} {t u r w k run : ℕ} {h : Home} {map : Bytes} {e : Extent} → Points f t → u ≡ regionOf (moduleOf f .term t) .number → r ≡ byteUnder to u
+    → w ≡ r → HomeIs f s n w h → (h .frame ≢ 0 → map ≡ mapList s (h .frame - 1)) → (e ≡ exactOf (flat (moduleOf f) (entryType f (h .entry)))) × Small e
+    → k ≡ form (moduleOf f .term t) → RunOf f t (eqb k 11) run
+    → TargetIs f s n to t (record { region = r; frame = h .frame; entry = h .entry; map = map; size = e .size; raw = eqb k 11; run = run })
+target-is {f} {s} {n} {to} {k = k} {h = h} points eu er ew home em ee ek i =
     let z = rw ew at home in
+    let two : eqb k 11 ≡ false → form (moduleOf f .term _) ≡ 2 = λ d. ⊎-elim (λ e. e) (λ e. absurd (eqb-false k 11 d (ek ∙ e))) points in
     record {
-      pointer = e;
+      typed = λ d. (two d, i .typed d .pointer (two d));
+      untyped = λ d. (sym ek ∙ eqb-true k 11 d, i .untyped d);
       region = er ∙ ap (byteUnder to) eu;
-      run = i .pointer e;
       home = record { none = z .none; some = z .some };
       map = em;
       size = record { is = ap (λ (x : Extent). x .size) (ee .0); small = ee .1 .0 };
     }
 
+module _ {f s : Bytes} {n : ℕ} {to : Bytes} {t : ℕ} {g : Target} (is : TargetIs f s n to t g) where
+  points : Points f t
+  points = go (g .raw) refl
+    where
+      go : (b : Bool) → g .raw ≡ b → Points f t
+      go true e = inr (is .untyped e .0)
+      go false e = inl (is .typed e .0)
+
+  region-is : g .region ≡ under {k = live} to (regionOf (moduleOf f .term t)) .number
+  region-is = is .region ∙ sym (ap (λ (z : Region live). z .number) (under-is to (regionOf (moduleOf f .term t))))
+
 module _ {f s : Bytes} {n : ℕ} {to : Bytes} {t x : ℕ} {g : Target} (is : TargetIs f s n to t g) {v : ℕ} (ev : v ≡ memoryNumber (view s .memory) x 4) where
+  -- a value of its type, in four bytes
+  by-value : {b : Bool} → Tells b (Value (moduleOf f) (typingOf f s n) (sub (under to) (moduleOf f .term t)) v) → Tells b (PrimitiveAt f s n to t x)
+  by-value u = tells-map (λ z. record { is = z }) (λ z. z .is) (rw (width-pointer (under to) (moduleOf f .term t) (points is), ← ev) u)
+
   pub pointer-zero : v ≡ 0 → PrimitiveAt f s n to t x
   pointer-zero z =
-      record { is = pointer (moduleOf f) (typingOf f s n) (under to) (view s .memory) x (moduleOf f .term t) (is .pointer) (tells-yes (inl (sym ev ∙ z))) .holds refl }
+      by-value (⊎-elim
+      (λ e. value-ptr (moduleOf f) (typingOf f s n) (under to) (moduleOf f .term t) e (tells-yes (inl z)))
+      (λ e. value-raw (moduleOf f) (typingOf f s n) (under to) (moduleOf f .term t) e (tells-yes (inl z))) (points is)) .holds refl
 
-  pub pointer-at : {b : Bool} → v ≢ 0 → Tells b (Stands (moduleOf f) (typingOf f s n) (sub (under to) (moduleOf f .term (g .run))) (g .region) v) → Tells b (PrimitiveAt f s n to t x)
-  pointer-at d w =
-      let q : g .region ≡ under {k = live} to (regionOf (moduleOf f .term t)) .number =
-      is .region ∙ sym (ap (λ (z : Region live). z .number) (under-is to (regionOf (moduleOf f .term t)))) in
-      tells-map (λ z. record { is = z }) (λ z. z .is)
-      (pointer (moduleOf f) (typingOf f s n) (under to) (view s .memory) x (moduleOf f .term t) (is .pointer)
-      (tells-map (λ z. inr z) (⊎-elim (λ z. absurd (d (ev ∙ z))) (λ z. z)) (rw (is .run, q, ev) at w)))
+  pub pointer-at : {b : Bool} → v ≢ 0 → g .raw ≡ false → Tells b (Stands (moduleOf f) (typingOf f s n) (sub (under to) (moduleOf f .term (g .run))) (g .region) v)
+      → Tells b (PrimitiveAt f s n to t x)
+  pointer-at d e w =
+      by-value (value-ptr (moduleOf f) (typingOf f s n) (under to) (moduleOf f .term t) (is .typed e .0)
+      (tells-map (λ z. inr z) (⊎-elim (λ z. absurd (d z)) (λ z. z)) (rw (is .typed e .1, region-is is) at w)))
+
+  pub pointer-raw : {b : Bool} → v ≢ 0 → g .raw ≡ true → Tells b (InUntyped (typingOf f s n) (g .run) (g .region) v) → Tells b (PrimitiveAt f s n to t x)
+  pointer-raw d e w =
+      by-value (value-raw (moduleOf f) (typingOf f s n) (under to) (moduleOf f .term t) (is .untyped e .0)
+      (tells-map (λ z. inr z) (⊎-elim (λ z. absurd (d z)) (λ z. z)) (rw (is .untyped e .1, region-is is) at w)))
+
+  -- in a region that is not live there is nothing to lead to
+  pub pointer-dead : v ≢ 0 → g .frame ≡ 0 → Tells false (PrimitiveAt f s n to t x)
+  pointer-dead d z = go (g .raw) refl
+    where
+      go : (b : Bool) → g .raw ≡ b → Tells false (PrimitiveAt f s n to t x)
+      go true e = pointer-raw d e (tells-no (untyped-none (is .home) z))
+      go false e = pointer-at d e (tells-no (stands-none (is .home) z))
 
 -- where a run stands, its regions given as bytes
 pub stands-under : {f s : Bytes} {n r : ℕ} {h : Home} → HomeIs f s n r h → (t : ℕ) (q : Bytes) {a o : ℕ} {p : Bytes} {b : Bool} → Narrow f → h .frame ≢ 0
-    → p ≡ mapList s (h .frame - 1) → o ≡ pageOwner s (a / pageBytes) → StandsIs f r o (h .term) p a t q b
+    → p ≡ mapList s (h .frame - 1) → o ≡ pageOwner s (a / pageBytes) → StandsIs f r o (h .entry) p a t q b
     → Tells b (Stands (moduleOf f) (typingOf f s n) (sub (under q) (moduleOf f .term t)) r a)
 unfolding view
-stands-under {f} {s} {n} {r} {h} home t q {a} {o} {p} {b} narrow d ep eo is =
-    let j : ℕ = h .frame - 1 in
-    let hj : h .frame ≡ suc j = omega (arith, d) in
-    let ty : typingOf f s n .type r ≡ sub (under p) (moduleOf f .term (h .term)) =
-    home .some j hj .1 ∙ sym (under-close s j (moduleOf f .term (h .term)) (narrow (h .term))) ∙ ap (λ (l : Bytes). sub (under {k = live} l) (moduleOf f .term (h .term))) (sym ep) in
-    does-tells (decStands (moduleOf f) (typingOf f s n) (sub (under q) (moduleOf f .term t)) r a) (is (typingOf f s n) (sym eo) ty)
+stands-under {f} {s} {n} {r} home t q {a} narrow d ep eo is =
+    does-tells (decStands (moduleOf f) (typingOf f s n) (sub (under q) (moduleOf f .term t)) r a) (is (typingOf f s n) (sym eo) (type-some home narrow d ep))
 
 -- ---- pointers of the same type, one after the other
 
@@ -143,12 +189,12 @@ primitive-same {f} {s} {n} {x = x} e w =
 -- the last aim, if there is one, with what is remembered of it
 pub record AimIs (f s : Bytes) (n : ℕ) (a : Aim) (m : Bytes) : Type 0 where
   pub target : a .known ≡ true → TargetIs f s n (a .to) (a .t) (a .target)
-  pub remembers : Remembers f (a .target .term) (a .target .map) (a .target .run) (a .to) m
+  pub remembers : Remembers f (a .target .entry) (a .target .map) (a .target .run) (a .to) m
 
 -- the aim of pointers of term t under `to`
 pub record AimsAt (f s : Bytes) (n : ℕ) (to : Bytes) (t : ℕ) (a : Aim) (m : Bytes) : Type 0 where
   pub target : TargetIs f s n (a .to) (a .t) (a .target)
-  pub remembers : Remembers f (a .target .term) (a .target .map) (a .target .run) (a .to) m
+  pub remembers : Remembers f (a .target .entry) (a .target .map) (a .target .run) (a .to) m
   pub same : sub (under {k = live} (a .to)) (moduleOf f .term (a .t)) ≡ sub (under to) (moduleOf f .term t)
 
 pub aim-none : {f s : Bytes} {n : ℕ} {a : Aim} → a .known ≡ false → AimIs f s n a (replicate 256 0)

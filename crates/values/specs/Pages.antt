@@ -13,17 +13,20 @@ use Rattle.words.specs.Bytes.{Bytes, AllBytes}
 use Rattle.words.specs.Choose.{lt-or-le}
 use Rattle.words.specs.Decide.{none, more}
 use Rattle.rules.specs.Limits.{pages, pageBytes}
-use Rattle.rules.specs.Types.{variable, live, Variable, Region, Tree, int, ptr, arr, struct, form, sub, Primitive as IsPrimitive}
+use Rattle.rules.specs.File.{untypedMark}
+use Rattle.rules.specs.Types.{variable, live, Variable, Region, Tree, int, ptr, arr, struct, rawPtr, bytes, form, sub, Primitive as IsPrimitive}
 use Rattle.rules.specs.Flat.{Placed, at, off, type, Has, Layout, count, flat, flatWith, size, subLayout}
 use Rattle.rules.specs.Decode.{moduleOf}
-use Rattle.rules.specs.State.{view, pageOwner, memoryNumber}
+use Rattle.rules.specs.State.{view, pageOwner, frameMap, memoryNumber}
+use Rattle.rules.specs.Heap.{close}
 use Rattle.rules.specs.StateTest.{PrimitiveOk, PageOk}
 use Rattle.layout.specs.Lists.{each-at}
 use Rattle.layout.specs.Prims.{nth, count-sub, at-has}
-use Rattle.layout.specs.Flat.{flat-has-prim}
+use Rattle.layout.specs.Flat.{flat-has-prim, size-sub}
 use Rattle.terms.specs.Heads.{placeOf, treeAt}
 use Rattle.terms.specs.HeadLaws.{place-in, place-out, place-le}
 use Rattle.terms.specs.ExtentLaws.{module-term}
+use Rattle.terms.specs.Readers.{entry-term, entry-bytes}
 use Rattle.terms.specs.Compare.{under}
 use Rattle.terms.specs.declared.Extent.{Extent}
 use Rattle.positions.specs.declared.Primitive.{Primitive}
@@ -31,13 +34,13 @@ use Rattle.positions.specs.Table.{Table, termLayout, exactOf}
 use Rattle.positions.specs.TableLaws.{layout-term}
 use Rattle.positions.specs.Positions.{Keeps, Agree, Found, keeps-held}
 use Rattle.positions.specs.Distances.{found-nth, layout-under}
-use Rattle.positions.specs.Maps.{each-of, Narrow, mapList, under-close}
+use Rattle.positions.specs.Maps.{each-of, Narrow, mapList}
 use Rattle.stack.specs.Tells.{Tells, tells-map, tells-yes, tells-not, tells-eq}
-use Rattle.objects.specs.Homes.{regionTree, HomeIs, size-some}
+use Rattle.objects.specs.Homes.{regionTree, HomeIs}
 use Rattle.marks.specs.Ends.{PlacesIn}
 use Rattle.objects.specs.declared.Home.{Home}
-use Rattle.registers.specs.Value.{map-short}
-use Rattle.values.specs.Memory.{PrimitiveAt, primitive-same, integer-at}
+use Rattle.registers.specs.Value.{map-short, type-is, type-some}
+use Rattle.values.specs.Memory.{Points, PrimitiveAt, primitive-same, integer-at}
 use Rattle.values.specs.Passes.{AllPrimitives}
 use Rattle.values.specs.declared.pages.Objects.{Objects}
 
@@ -71,24 +74,21 @@ pub record ObjectsAre (f s : Bytes) (n p terms structs : ℕ) (o : Objects) : Ty
   pub layout : flat (moduleOf f) (pageTree f s n p) ≡ subLayout (under {k = live} (o .to)) (termLayout f structs (o .place))
 
 pub objects-are : {f s : Bytes} {n p r terms structs a : ℕ} {tab : List ℕ} {h : Home} {map to : Bytes} {e : Extent} → Table f terms structs tab → Narrow f → HomeIs f s n r h
-    → r ≡ pageOwner s p - 1 → h .frame ≢ 0 → a ≡ placeOf terms (h .term) → map ≡ mapList s (h .frame - 1) → Agree to map
-    → e ≡ exactOf (flat (moduleOf f) (moduleOf f .term (h .term))) → e .count ≤ 257
+    → r ≡ pageOwner s p - 1 → h .frame ≢ 0 → h .entry ≢ untypedMark → a ≡ placeOf terms (h .entry) → map ≡ mapList s (h .frame - 1) → Agree to map
+    → e ≡ exactOf (flat (moduleOf f) (moduleOf f .term (h .entry))) → e .count ≤ 257
     → ObjectsAre f s n p terms structs (record { place = a; to = to; size = e .size; count = e .count })
-objects-are {f} {s} {n} {p} {r} {terms} {structs} {a} {tab} {h} {map} {to} {e} table narrow home er d ea em agree ee few =
-    let k : ℕ = h .frame - 1 in
-    let hk : h .frame ≡ suc k = omega (arith, d) in
-    let T : Tree variable = moduleOf f .term (h .term) in
-    let keeps : Keeps to = keeps-held to map (map-short s k em) agree in
-    let z : e .size ≡ size (moduleOf f) T = ap (λ (x : Extent). x .size) ee in
+objects-are {f} {s} {n} {p} {r} {terms} {structs} {a} {tab} {h} {map} {to} {e} table narrow home er d typed ea em agree ee few =
+    let T : Tree variable = moduleOf f .term (h .entry) in
+    let keeps : Keeps to = keeps-held to map (map-short s (h .frame - 1) em) agree in
     let tree : pageTree f s n p ≡ sub (under {k = live} map) T =
-    ap (regionTree f s n) (sym er) ∙ home .some k hk .1 ∙ sym (under-close s k T (narrow (h .term))) ∙ ap (λ (l : Bytes). sub (under {k = live} l) T) (sym em) in
+    ap (regionTree f s n) (sym er) ∙ sym (type-is home) ∙ type-some home narrow d em ∙ ap (sub (under {k = live} map)) (entry-term f (h .entry) typed) in
     record {
-      low = rw ea (place-le terms (h .term));
+      low = rw ea (place-le terms (h .entry));
       keeps = keeps;
-      size = size-some home d z ∙ ap (λ (x : ℕ). size (moduleOf f) (regionTree f s n x)) er;
-      count = ap (λ (x : Extent). x .count) ee ∙ ap (λ (L : Layout variable). count L) (sym (ap (termLayout f structs) ea ∙ layout-term f terms structs (table .counted) (h .term)));
+      size = ap (λ (x : Extent). x .size) ee ∙ sym (ap (size (moduleOf f)) tree ∙ size-sub (under {k = live} map) (moduleOf f) T);
+      count = ap (λ (x : Extent). x .count) ee ∙ ap (λ (L : Layout variable). count L) (sym (ap (termLayout f structs) ea ∙ layout-term f terms structs (table .counted) (h .entry)));
       few = few;
-      layout = ap (flat (moduleOf f)) tree ∙ sym (layout-under live f terms structs (table .counted) (h .term) map to keeps agree)
+      layout = ap (flat (moduleOf f)) tree ∙ sym (layout-under live f terms structs (table .counted) (h .entry) map to keeps agree)
           ∙ ap (λ (x : ℕ). subLayout (under {k = live} to) (termLayout f structs x)) (sym ea);
     }
 
@@ -116,12 +116,14 @@ module _ {f s : Bytes} {n p z : ℕ} {to : Bytes} {t d : ℕ} where
 
 -- ---- position by position
 
-form-two : (σ : Variable → Region live) (T : Tree variable) → form T ≢ 1 → IsPrimitive (sub σ T) → form T ≡ 2
+form-pointer : (σ : Variable → Region live) (T : Tree variable) → form T ≢ 1 → IsPrimitive (sub σ T) → (form T ≡ 2) ⊎ (form T ≡ 11)
 unfolding sub
-form-two σ (int w) d h = absurd (d refl)
-form-two σ (ptr U r) d h = refl
-form-two σ (arr n U) d h = elim h [ ]
-form-two σ (struct N rs) d h = elim h [ ]
+form-pointer σ (int w) d h = absurd (d refl)
+form-pointer σ (ptr U r) d h = inl refl
+form-pointer σ (arr n U) d h = elim h [ ]
+form-pointer σ (struct N rs) d h = elim h [ ]
+form-pointer σ (rawPtr n r) d h = inr refl
+form-pointer σ bytes d h = elim h [ ]
 
 module _ {f s : Bytes} {n p terms structs : ℕ} {o : Objects} (are : ObjectsAre f s n p terms structs o) {tab : List ℕ} (table : Table f terms structs tab) (i : ℕ) (r : Primitive)
     (found : Found f r (o .to) 0 (nth (termLayout f structs (o .place)) i)) (t : ℕ) (et : placeOf terms t ≡ r .place) where
@@ -146,11 +148,11 @@ module _ {f s : Bytes} {n p terms structs : ℕ} {o : Objects} (are : ObjectsAre
   position-integer ek all e = position-to (λ j h. record { is = λ l. integer-at all (sym ek ∙ e) })
 
   -- what is no integer is a pointer
-  pub position-pointer : {kind : ℕ} → kind ≡ form (moduleOf f .term t) → kind ≢ 1 → i < o .count → form (moduleOf f .term t) ≡ 2
+  pub position-pointer : {kind : ℕ} → kind ≡ form (moduleOf f .term t) → kind ≢ 1 → i < o .count → Points f t
   position-pointer ek d l =
       let c : o .count ≡ count (flat (moduleOf f) (pageTree f s n p)) =
       are .count ∙ sym (count-sub (under {k = live} (o .to)) (termLayout f structs (o .place))) ∙ ap (λ (L : Layout live). count L) (sym (are .layout)) in
-      form-two (under {k = live} (r .to)) (moduleOf f .term t) (λ e. d (ek ∙ e))
+      form-pointer (under {k = live} (r .to)) (moduleOf f .term t) (λ e. d (ek ∙ e))
       (flat-has-prim (moduleOf f) (pageTree f s n p)
       (subst (λ (q : Placed live). Has (flat (moduleOf f) (pageTree f s n p) .prims) (off q) (type q)) (sym primitive) (at-has (flat (moduleOf f) (pageTree f s n p) .prims) i (at 0 (int 0)) (omega arith))))
 
@@ -229,6 +231,11 @@ module _ (f s : Bytes) (n p : ℕ) (d : pageOwner s p ≢ 0) where
       let z : 0 < 1 = omega arith in
       record { is = subst (λ (x : ℕ). PageOk (moduleOf f) (view s) n p x) (owned s p d) (rw e (λ j h l. more z none)) }
 
+  -- nor of those of an untyped region
+  page-untyped : regionTree f s n (pageOwner s p - 1) ≡ bytes → PagePrimitives f s n p
+  unfolding view flat flatWith
+  page-untyped e = record { is = subst (λ (x : ℕ). PageOk (moduleOf f) (view s) n p x) (owned s p d) (rw e (λ j h l. none)) }
+
   module _ {terms structs : ℕ} {a : Objects} (are : ObjectsAre f s n p terms structs a) where
     counted : a .count ≡ count (flat (moduleOf f) (pageTree f s n p))
     counted =
@@ -262,6 +269,17 @@ module _ {f s : Bytes} {n p o : ℕ} (eo : o ≡ pageOwner s p) where
         is = λ u q h e.
             let eq : pageOwner s q ≡ o = e ∙ sym eo in
             page-dead f s n q (λ k. d (sym eq ∙ k)) (ap (λ (x : ℕ). regionTree f s n (x - 1)) eq ∙ w .none z);
+      }
+
+  pub leads-untyped : {h : Home} → o ≢ 0 → HomeIs f s n (o - 1) h → h .frame ≢ 0 → h .entry ≡ untypedMark → Leads f s n p
+  unfolding sub
+  leads-untyped {h} d w z b =
+      let k : h .frame ≡ suc (h .frame - 1) = omega (arith, z) in
+      record {
+        is = λ u q l e.
+            let eq : pageOwner s q ≡ o = e ∙ sym eo in
+            page-untyped f s n q (λ k. d (sym eq ∙ k))
+            (ap (λ (x : ℕ). regionTree f s n (x - 1)) eq ∙ w .some (h .frame - 1) k .1 ∙ ap (close (frameMap s (h .frame - 1))) (entry-bytes f (h .entry) b));
       }
 
   pub leads-by : {terms structs : ℕ} {a : Objects} {b : Bool} → o ≢ 0 → p < pages → ((q : ℕ) → q < p → Apart s o q) → ObjectsAre f s n p terms structs a

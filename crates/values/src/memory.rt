@@ -1,28 +1,32 @@
-// A pointer in the pages as a value of a term, whose regions are given as bytes. (An integer's bytes always hold one of its values.)
+// A pointer in the pages, typed or untyped, as a value of a term, whose regions are given as bytes. (An integer's bytes always hold one of
+// its values.)
 ghost use mathlib.Core.Path.{_≡_};
 ghost use mathlib.Core.Bool.{false};
 ghost use mathlib.Core.Logic.{_≢_};
 ghost use Prim.Native.Nat.{_-_, _<_, _^_};
-ghost use Rattle.rules.specs.Types.{form};
-ghost use Rattle.rules.specs.Decode.{moduleOf};
 ghost use Rattle.rules.specs.State.{view, memoryNumber};
 ghost use Rattle.positions.specs.Table.{Table};
 ghost use Rattle.stack.specs.Tells.{Tells};
 ghost use Rattle.stack.specs.Facts.{Known};
 ghost use Rattle.positions.specs.Maps.{Narrow, mapList};
-ghost use Rattle.values.specs.Memory.{PrimitiveAt, TargetIs, AimIs, AimsAt};
+ghost use Rattle.terms.specs.Extents.{Terms};
+ghost use Rattle.values.specs.Memory.{Points, RunOf, PrimitiveAt, TargetIs, AimIs, AimsAt};
 ghost use Rattle.memo.specs.Memo.{Remembers};
 use memo::forget;
 use memo::stands_known;
+use objects::extent_of;
 use objects::home_of;
 use registers::map_of;
 use rules::limits::CALLEES;
 use rules::limits::SIZE_LIMIT;
+use runs::in_untyped;
 use state::Machine;
 use state::total::memory_byte;
 use terms::Live;
+use terms::form;
 use terms::inner;
 use terms::live_of;
+use terms::number;
 use terms::target_region;
 
 // The four bytes from address x on, one by one.
@@ -48,14 +52,15 @@ fn word(s: &[u8], x: u32) -> u32
     bytes(s, x)
 }
 
-// Where the pointers of a term lead: into live region `region`, whose objects are of `term` under `map` (frame 0: it is not live), to
-// a run of term `run`.
+// Where the pointers of a term lead: into live region `region`, whose type is `entry` of record 8 under `map` (frame 0: it is not live), to
+// a run of term `run`, or, raw ones, to `run` untyped bytes.
 pub struct Target {
     pub region: u8,
     pub frame: u32,
-    pub term: usize,
+    pub entry: usize,
     pub map: [u8; 7],
     pub size: usize,
+    pub raw: bool,
     pub run: usize,
 }
 
@@ -67,6 +72,17 @@ fn map_before(s: &[u8], frame: u32) -> [u8; 7]
         return [0, 0, 0, 0, 0, 0, 0];
     }
     map_of(s, frame - 1)
+}
+
+// The term, or the number of bytes, that pointers of term t lead to.
+fn run_of(f: &[u8], terms: usize, t: usize, raw: bool) -> usize
+    requires { ⌜ Terms (now f) terms ⌝ }
+    ensures { λ r. ⌜ RunOf (now (f .entry)) t raw r ⌝ }
+{
+    if raw {
+        return number(f, terms, t);
+    }
+    inner(f, terms, t)
 }
 
 // Of n frames: where pointers of term t under `to` lead.
@@ -82,7 +98,7 @@ pub fn target_of(
     to: [u8; 8],
     t: usize,
 ) -> Target
-    requires { ⌜ Known (now f) (now starts) functions ⌝ ∗ ⌜ Table (now f) terms structs (now tab) ⌝ ∗ ⌜ form (moduleOf (now f) .term t) ≡ 2 ⌝ }
+    requires { ⌜ Known (now f) (now starts) functions ⌝ ∗ ⌜ Table (now f) terms structs (now tab) ⌝ ∗ ⌜ Points (now f) t ⌝ }
     ensures { λ g. ⌜ TargetIs (now (f .entry)) (now (s .entry)) n to t g ⌝ }
 {
     let variable = target_region(f, terms, t);
@@ -91,14 +107,16 @@ pub fn target_of(
     let h = home_of(f, starts, functions, s, n, words::wide(region));
     let frame = h.frame;
     let map = map_before(s, frame);
-    let e = positions::extent_at(terms, h.term, tab, f, structs);
-    let run = inner(f, terms, t);
+    let e = extent_of(terms, h.entry, tab, f, structs);
+    let raw = form(f, terms, t) == 11;
+    let run = run_of(f, terms, t, raw);
     Target {
         region,
         frame,
-        term: h.term,
+        entry: h.entry,
         map,
         size: e.size,
+        raw,
         run,
     }
 }
@@ -120,9 +138,10 @@ pub fn no_aim() -> Aim
     let target = Target {
         region: 0,
         frame: 0,
-        term: 0,
+        entry: 0,
         map,
         size: 0,
+        raw: false,
         run: 0,
     };
     Aim {
@@ -148,7 +167,7 @@ pub fn aim_at(
     last: Aim,
     memo: &mut [u8; SIZE_LIMIT],
 ) -> Aim
-    requires { ⌜ Known (now f) (now starts) functions ⌝ ∗ ⌜ Table (now f) terms structs (now tab) ⌝ ∗ ⌜ form (moduleOf (now f) .term t) ≡ 2 ⌝ ∗ ⌜ AimIs (now f) (now s) n last (now memo) ⌝ }
+    requires { ⌜ Known (now f) (now starts) functions ⌝ ∗ ⌜ Table (now f) terms structs (now tab) ⌝ ∗ ⌜ Points (now f) t ⌝ ∗ ⌜ AimIs (now f) (now s) n last (now memo) ⌝ }
     ensures { λ a. ⌜ AimsAt (now (f .entry)) (now (s .entry)) n to t a (now (memo .exit)) ⌝ }
 {
     let old = last.to;
@@ -167,7 +186,7 @@ pub fn aim_at(
     }
 }
 
-// The pointer at address x, of term t under `to`: zero, or where its run stands.
+// The pointer at address x, of term t under `to`: zero, or where its run stands, or its bytes lie.
 pub fn pointer_ok(
     f: &[u8],
     terms: usize,
@@ -181,8 +200,8 @@ pub fn pointer_ok(
     x: u32,
     memo: &mut [u8; SIZE_LIMIT],
 ) -> bool
-    requires { ⌜ Table (now f) terms structs (now tab) ⌝ ∗ ⌜ Narrow (now f) ⌝ ∗ ⌜ (TargetIs (now f) (now s) n to t g) × (x < 2 ^ 30) × (Remembers (now f) (g .term) (g .map) (g .run) to (now memo)) ⌝ }
-    ensures { λ b. ⌜ (Tells b (PrimitiveAt (now (f .entry)) (now (s .entry)) n to t x)) × (Remembers (now (f .entry)) (g .term) (g .map) (g .run) to (now (memo .exit))) ⌝ }
+    requires { ⌜ Table (now f) terms structs (now tab) ⌝ ∗ ⌜ Narrow (now f) ⌝ ∗ ⌜ (TargetIs (now f) (now s) n to t g) × (x < 2 ^ 30) × (Remembers (now f) (g .entry) (g .map) (g .run) to (now memo)) ⌝ }
+    ensures { λ b. ⌜ (Tells b (PrimitiveAt (now (f .entry)) (now (s .entry)) n to t x)) × (Remembers (now (f .entry)) (g .entry) (g .map) (g .run) to (now (memo .exit))) ⌝ }
 {
     let v = word(s, x);
     if v == 0 {
@@ -192,6 +211,9 @@ pub fn pointer_ok(
         return false;
     }
     let owner = state::total::owner(s, v / Machine::PAGE_BYTES);
+    if g.raw {
+        return in_untyped(Live(g.region), owner, g.entry, v, g.run);
+    }
     let map = g.map;
     stands_known(
         f,
@@ -199,7 +221,7 @@ pub fn pointer_ok(
         structs,
         Live(g.region),
         owner,
-        g.term,
+        g.entry,
         &map,
         g.size,
         v,

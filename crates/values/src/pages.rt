@@ -1,8 +1,10 @@
 // "each primitive in each owned page is a value of its type": region by region, position by position, page by page, place by place. What
 // the objects of a region are is found once, the primitive at a position and where it leads once for all its pages.
 ghost use mathlib.Core.Path.{_≡_};
+ghost use mathlib.Core.Logic.{_≢_};
 ghost use Prim.Native.Nat.{ℕ, suc, _-_, _*_, _<_, _≤_};
 ghost use Rattle.rules.specs.Limits.{pages, pageBytes, sizeLimit};
+ghost use Rattle.rules.specs.File.{untypedMark};
 ghost use Rattle.rules.specs.State.{pageOwner};
 ghost use Rattle.terms.specs.Heads.{placeOf};
 ghost use Rattle.positions.specs.Table.{Table};
@@ -26,6 +28,7 @@ use registers::map_of;
 use rules::limits::CALLEES;
 use rules::limits::SIZE_LIMIT;
 use state::Machine;
+use terms::UNTYPED;
 use terms::form;
 
 // What the objects of a page are: the place of their term, the regions put in, their size and how many primitives each has.
@@ -64,8 +67,8 @@ fn place_ok(
     j: usize,
     memo: &mut [u8; SIZE_LIMIT],
 ) -> bool
-    requires { ⌜ Table (now f) terms structs (now tab) ⌝ ∗ ⌜ Narrow (now f) ⌝ ∗ ⌜ (p < pages) × (d ≤ sizeLimit) × (size * suc j ≤ pageBytes) × (TargetIs (now f) (now s) n to t g) × (Remembers (now f) (g .term) (g .map) (g .run) to (now memo)) ⌝ }
-    ensures { λ b. ⌜ (Tells b (PlaceOk (now (f .entry)) (now (s .entry)) n p size to t d j)) × (Remembers (now (f .entry)) (g .term) (g .map) (g .run) to (now (memo .exit))) ⌝ }
+    requires { ⌜ Table (now f) terms structs (now tab) ⌝ ∗ ⌜ Narrow (now f) ⌝ ∗ ⌜ (p < pages) × (d ≤ sizeLimit) × (size * suc j ≤ pageBytes) × (TargetIs (now f) (now s) n to t g) × (Remembers (now f) (g .entry) (g .map) (g .run) to (now memo)) ⌝ }
+    ensures { λ b. ⌜ (Tells b (PlaceOk (now (f .entry)) (now (s .entry)) n p size to t d j)) × (Remembers (now (f .entry)) (g .entry) (g .map) (g .run) to (now (memo .exit))) ⌝ }
 {
     let x = Machine::PAGE_BYTES * p + (size * j + d) as u32;
     pointer_ok(f, terms, structs, tab, s, n, to, t, g, x, memo)
@@ -86,8 +89,8 @@ fn places_ok(
     g: Target,
     memo: &mut [u8; SIZE_LIMIT],
 ) -> bool
-    requires { ⌜ Table (now f) terms structs (now tab) ⌝ ∗ ⌜ Narrow (now f) ⌝ ∗ ⌜ (p < pages) × (d ≤ sizeLimit) × (TargetIs (now f) (now s) n to t g) × (Remembers (now f) (g .term) (g .map) (g .run) to (now memo)) ⌝ }
-    ensures { λ b. ⌜ (Tells b ((j : ℕ) → j < pageBytes → PlaceOk (now (f .entry)) (now (s .entry)) n p size to t d j)) × (Remembers (now (f .entry)) (g .term) (g .map) (g .run) to (now (memo .exit))) ⌝ }
+    requires { ⌜ Table (now f) terms structs (now tab) ⌝ ∗ ⌜ Narrow (now f) ⌝ ∗ ⌜ (p < pages) × (d ≤ sizeLimit) × (TargetIs (now f) (now s) n to t g) × (Remembers (now f) (g .entry) (g .map) (g .run) to (now memo)) ⌝ }
+    ensures { λ b. ⌜ (Tells b ((j : ℕ) → j < pageBytes → PlaceOk (now (f .entry)) (now (s .entry)) n p size to t d j)) × (Remembers (now (f .entry)) (g .entry) (g .map) (g .run) to (now (memo .exit))) ⌝ }
 {
     let many = places_in(size);
     let mut j = 0;
@@ -117,8 +120,8 @@ fn owned_places(
     q: u32,
     memo: &mut [u8; SIZE_LIMIT],
 ) -> bool
-    requires { ⌜ Table (now f) terms structs (now tab) ⌝ ∗ ⌜ Narrow (now f) ⌝ ∗ ⌜ (q < pages) × (d ≤ sizeLimit) × (TargetIs (now f) (now s) n to t g) × (Remembers (now f) (g .term) (g .map) (g .run) to (now memo)) ⌝ }
-    ensures { λ b. ⌜ (Tells b (OwnedPlaces (now (f .entry)) (now (s .entry)) n owner size to t d q)) × (Remembers (now (f .entry)) (g .term) (g .map) (g .run) to (now (memo .exit))) ⌝ }
+    requires { ⌜ Table (now f) terms structs (now tab) ⌝ ∗ ⌜ Narrow (now f) ⌝ ∗ ⌜ (q < pages) × (d ≤ sizeLimit) × (TargetIs (now f) (now s) n to t g) × (Remembers (now f) (g .entry) (g .map) (g .run) to (now memo)) ⌝ }
+    ensures { λ b. ⌜ (Tells b (OwnedPlaces (now (f .entry)) (now (s .entry)) n owner size to t d q)) × (Remembers (now (f .entry)) (g .entry) (g .map) (g .run) to (now (memo .exit))) ⌝ }
 {
     if state::total::owner(s, q) != owner {
         return true;
@@ -142,8 +145,8 @@ fn all_places(
     g: Target,
     memo: &mut [u8; SIZE_LIMIT],
 ) -> bool
-    requires { ⌜ Table (now f) terms structs (now tab) ⌝ ∗ ⌜ Narrow (now f) ⌝ ∗ ⌜ (d ≤ sizeLimit) × (TargetIs (now f) (now s) n to t g) × (Remembers (now f) (g .term) (g .map) (g .run) to (now memo)) ⌝ }
-    ensures { λ b. ⌜ (Tells b ((q : ℕ) → q < pages → OwnedPlaces (now (f .entry)) (now (s .entry)) n owner size to t d q)) × (Remembers (now (f .entry)) (g .term) (g .map) (g .run) to (now (memo .exit))) ⌝ }
+    requires { ⌜ Table (now f) terms structs (now tab) ⌝ ∗ ⌜ Narrow (now f) ⌝ ∗ ⌜ (d ≤ sizeLimit) × (TargetIs (now f) (now s) n to t g) × (Remembers (now f) (g .entry) (g .map) (g .run) to (now memo)) ⌝ }
+    ensures { λ b. ⌜ (Tells b ((q : ℕ) → q < pages → OwnedPlaces (now (f .entry)) (now (s .entry)) n owner size to t d q)) × (Remembers (now (f .entry)) (g .entry) (g .map) (g .run) to (now (memo .exit))) ⌝ }
 {
     let mut q = 0;
     while q < Machine::PAGES {
@@ -285,7 +288,7 @@ fn positions_ok(
     true
 }
 
-// The objects of page p, whose region is r, of the type at home h.
+// The objects of page p, whose region is r, of the term at home h.
 fn objects_of(
     f: &[u8],
     terms: usize,
@@ -297,11 +300,11 @@ fn objects_of(
     r: u32,
     h: Home,
 ) -> Objects
-    requires { ⌜ Table (now f) terms structs (now tab) ⌝ ∗ ⌜ Narrow (now f) ⌝ ∗ ⌜ (HomeIs (now f) (now s) n r h) × (0 < h .frame) × (r ≡ pageOwner (now s) p - 1) ⌝ }
+    requires { ⌜ Table (now f) terms structs (now tab) ⌝ ∗ ⌜ Narrow (now f) ⌝ ∗ ⌜ (HomeIs (now f) (now s) n r h) × (0 < h .frame) × (h .entry ≢ untypedMark) × (r ≡ pageOwner (now s) p - 1) ⌝ }
     ensures { λ o. ⌜ ObjectsAre (now (f .entry)) (now (s .entry)) n p terms structs o ⌝ }
 {
     let frame = h.frame;
-    let term = h.term;
+    let term = h.entry;
     let map = map_of(s, frame - 1);
     let e = positions::extent_at(terms, term, tab, f, structs);
     let to = positions::held(&map);
@@ -358,6 +361,10 @@ fn page_ok(
     }
     let h = home_of(f, starts, functions, s, n, owner - 1);
     if h.frame == 0 {
+        return true;
+    }
+    // untyped bytes are no primitives
+    if h.entry == UNTYPED {
         return true;
     }
     let o = objects_of(f, terms, structs, tab, s, n, p, owner - 1, h);

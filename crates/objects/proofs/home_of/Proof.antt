@@ -1,4 +1,4 @@
--- `objects::home_of` meets its contract: its frame, and there its term. Assumes nothing.
+-- `objects::home_of` meets its contract: its frame, and there the entry of record 8. Assumes nothing.
 use native.Mathlib.Omega.{arith}
 use Rattle.objects.specs.Homes.{home-none, home-some, local-some}
 use borrow.Author.Needs.{needs}
@@ -26,20 +26,20 @@ head-requires c κs = search needs
 wide-requires : tie.Need-wide-requires
 wide-requires c κs = search needs
 
-sub-term-of : tie.Need-sub-term-of
-sub-term-of c = search needs
+sub-entry-of : tie.Need-sub-entry-of
+sub-entry-of c = search needs
 
-sub-term-of-2 : tie.Need-sub-term-of-2
-sub-term-of-2 c = omega (arith, local-some (c .before .before .before .before .before .before .before .args .f .now) (c .before .before .before .before .before .before .before .args .s .now) (c .before .before .before .before .before .before .before .args .n) (c .before .before .before .before .before .before .before .args .r) (c .before .before .before .before .frame-of .ensures) (c .before .before .before .if1 .left) (c .before .before .local-in .ensures .0))
+sub-entry-of-2 : tie.Need-sub-entry-of-2
+sub-entry-of-2 c = omega (arith, local-some (c .before .before .before .before .before .before .before .args .f .now) (c .before .before .before .before .before .before .before .args .s .now) (c .before .before .before .before .before .before .before .args .n) (c .before .before .before .before .before .before .before .args .r) (c .before .before .before .before .frame-of .ensures) (c .before .before .before .if1 .left) (c .before .before .local-in .ensures .0))
 
-add-term-of : tie.Need-add-term-of
-add-term-of c = search needs
+add-entry-of : tie.Need-add-entry-of
+add-entry-of c = search needs
 
-term-of-requires : tie.Need-term-of-requires
-term-of-requires c κs = search needs
+entry-of-requires : tie.Need-entry-of-requires
+entry-of-requires c κs = search needs
 
 returns-2 : tie.Need-returns-2
-returns-2 c = home-some (c .before .before .before .before .before .frame-of .ensures) (c .before .before .before .before .if1 .left) (c .before .before .before .local-in .ensures .0) (c .before .before .head .ensures) (c .before .wide .ensures .0) (c .term-of .ensures)
+returns-2 c = home-some (c .before .before .before .before .before .frame-of .ensures) (c .before .before .before .before .if1 .left) (c .before .before .before .local-in .ensures .0) (c .before .before .head .ensures) (c .before .wide .ensures .0) (c .entry-of .ensures)
 
 pub home-of-spec : {M : Type 1} → statement M
 home-of-spec =
@@ -52,8 +52,8 @@ home-of-spec =
     sub-head
     head-requires
     wide-requires
-    sub-term-of
-    sub-term-of-2
-    add-term-of
-    term-of-requires
+    sub-entry-of
+    sub-entry-of-2
+    add-entry-of
+    entry-of-requires
     returns-2)

@@ -1,6 +1,7 @@
--- `objects::object` meets its contract: by whether the page has an owner. Assumes nothing.
+-- `objects::object` meets its contract: by whether the page has an owner, and its objects primitives. Assumes nothing.
+use native.Mathlib.Omega.{arith}
 use mathlib.Core.Path.{refl, _∙_}
-use Rattle.objects.specs.Homes.{object-none, object-some}
+use Rattle.objects.specs.Homes.{object-none, object-some, object-bare}
 use borrow.Author.Needs.{needs}
 use Rattle.objects.proofs.object.Statement.{statement}
 use Rattle.objects.proofs.object.Tie as tie
@@ -20,20 +21,23 @@ frames-requires c κs = search needs
 wide-requires-2 : tie.Need-wide-requires-2
 wide-requires-2 c κs = search needs
 
-sub-size-of : tie.Need-sub-size-of
-sub-size-of c = search needs
+sub-region-extent : tie.Need-sub-region-extent
+sub-region-extent c = search needs
 
-size-of-requires : tie.Need-size-of-requires
-size-of-requires c κs = search needs
+region-extent-requires : tie.Need-region-extent-requires
+region-extent-requires c κs = search needs
+
+returns-2 : tie.Need-returns-2
+returns-2 c = object-bare _ _ _ refl (c .before .before .before .before .before .before .wide .ensures .0 ∙ c .before .before .before .before .before .before .before .owner .ensures) (c .before .before .before .before .before .if1 .left) (c .before .before .before .wide2 .ensures .0 ∙ c .before .before .before .before .frames .ensures) (c .before .before .region-extent .ensures .0) (c .if2 .taken)
 
 cast-object-in : tie.Need-cast-object-in
 cast-object-in c = search needs
 
 object-in-requires : tie.Need-object-in-requires
-object-in-requires c κs = search needs
+object-in-requires c κs = (omega arith, c .before .before .region-extent .ensures .1 .0)
 
-returns-2 : tie.Need-returns-2
-returns-2 c = object-some _ _ _ refl refl (c .before .before .before .before .before .wide .ensures .0 ∙ c .before .before .before .before .before .before .owner .ensures) (c .before .before .before .before .if1 .left) (c .before .before .wide2 .ensures .0 ∙ c .before .before .before .frames .ensures) (c .before .size-of .ensures .0) (c .object-in .ensures)
+returns-3 : tie.Need-returns-3
+returns-3 c = object-some _ _ _ refl refl (c .before .before .before .before .before .before .before .wide .ensures .0 ∙ c .before .before .before .before .before .before .before .before .owner .ensures) (c .before .before .before .before .before .before .if1 .left) (c .before .before .before .before .wide2 .ensures .0 ∙ c .before .before .before .before .before .frames .ensures) (c .before .before .before .region-extent .ensures .0) (c .before .if2 .left) (c .object-in .ensures)
 
 pub object-spec : {M : Type 1} → statement M
 object-spec =
@@ -44,8 +48,9 @@ object-spec =
     returns
     frames-requires
     wide-requires-2
-    sub-size-of
-    size-of-requires
+    sub-region-extent
+    region-extent-requires
+    returns-2
     cast-object-in
     object-in-requires
-    returns-2)
+    returns-3)

@@ -29,8 +29,8 @@ map-of-requires-2 c κs = search needs
 owner-requires : tie.Need-owner-requires
 owner-requires c κs = search needs
 
-extent-at-requires : tie.Need-extent-at-requires
-extent-at-requires c κs = search needs
+extent-of-requires : tie.Need-extent-of-requires
+extent-of-requires c κs = search needs
 
 slice-aggregate-stands-known : tie.Need-slice-aggregate-stands-known
 slice-aggregate-stands-known c = search needs
@@ -41,7 +41,7 @@ slice-aggregate-stands-known-2 c = search needs
 stands-known-requires : tie.Need-stands-known-requires
 stands-known-requires c κs =
     let q = c .before .before .before .before .before .before .before .before .before .before .before .before .before .pre in
-    let e = c .before .before .before .extent-at .ensures in
+    let e = c .before .before .before .extent-of .ensures in
     ((q .1 .0, map-short _ _ (c .before .before .before .before .before .before .map-of .ensures), map-short _ _ (c .before .before .before .before .before .map-of2 .ensures), record { is = ap (λ (x : Extent). x .size) (e .0); small = e .1 .0 }), remembers-none 256)
 
 returns-2 : tie.Need-returns-2
@@ -58,7 +58,7 @@ stands-at-spec =
     map-of-requires
     map-of-requires-2
     owner-requires
-    extent-at-requires
+    extent-of-requires
     slice-aggregate-stands-known
     slice-aggregate-stands-known-2
     stands-known-requires

@@ -22,14 +22,17 @@ home-of-requires c κs = search needs
 map-before-requires : tie.Need-map-before-requires
 map-before-requires c κs = search needs
 
-extent-at-requires : tie.Need-extent-at-requires
-extent-at-requires c κs = search needs
+extent-of-requires : tie.Need-extent-of-requires
+extent-of-requires c κs = search needs
 
-inner-requires : tie.Need-inner-requires
-inner-requires c κs = c .before .before .before .before .before .before .before .before .before .before .pre .1 .0 .counted .terms
+form-requires : tie.Need-form-requires
+form-requires c κs = c .before .before .before .before .before .before .before .before .before .before .pre .1 .0 .counted .terms
+
+run-of-requires : tie.Need-run-of-requires
+run-of-requires c κs = c .before .before .before .before .before .before .before .before .before .before .before .pre .1 .0 .counted .terms
 
 returns : tie.Need-returns
-returns c = target-is (c .before .before .before .before .before .before .before .before .before .before .before .pre .1 .1) (c .before .before .before .before .before .before .before .target-region .ensures) (c .before .before .before .before .before .live-of .ensures) (c .before .before .before .before .wide .ensures .0) (c .before .before .before .home-of .ensures) (c .before .before .map-before .ensures) (c .before .extent-at .ensures) (c .inner .ensures)
+returns c = target-is (c .before .before .before .before .before .before .before .before .before .before .before .before .pre .1 .1) (c .before .before .before .before .before .before .before .before .target-region .ensures) (c .before .before .before .before .before .before .live-of .ensures) (c .before .before .before .before .before .wide .ensures .0) (c .before .before .before .before .home-of .ensures) (c .before .before .before .map-before .ensures) (c .before .before .extent-of .ensures) (c .before .form .ensures) (c .run-of .ensures)
 
 pub target-of-spec : {M : Type 1} → statement M
 target-of-spec =
@@ -41,6 +44,7 @@ target-of-spec =
     wide-requires
     home-of-requires
     map-before-requires
-    extent-at-requires
-    inner-requires
+    extent-of-requires
+    form-requires
+    run-of-requires
     returns)

@@ -10,7 +10,7 @@ use Rattle.values.proofs.pages.all_places.Tie as tie
 
 abbrev Inv-loop : tie.InvT-loop
 Inv-loop f terms structs tab s n owner size to t d g memo₀ q₀ memo q =
-    (q ≤ 64) × (((z : ℕ) → z < q → OwnedPlaces f s n owner size to t d z) × Remembers f (g .term) (g .map) (g .run) to memo)
+    (q ≤ 64) × (((z : ℕ) → z < q → OwnedPlaces f s n owner size to t d z) × Remembers f (g .entry) (g .map) (g .run) to memo)
 
 abbrev μ-loop : tie.MeasureT-loop
 μ-loop f terms structs tab s n owner size to t d g memo₀ q₀ memo q = 64 - q

@@ -26,7 +26,7 @@ place-of-requires c κs = search needs
 returns : tie.Need-returns
 returns c =
     let q = c .before .before .before .before .before .before .before .before .pre in
-    objects-are (q .0) (q .1 .0) (q .1 .1 .0) (q .1 .1 .2) (λ e. absurd (omega (arith, q .1 .1 .1))) (c .place-of .ensures .0) (c .before .before .before .before .map-of .ensures) (c .before .held .ensures) (c .before .before .before .extent-at .ensures .0) (c .before .before .before .extent-at .ensures .1 .1)
+    objects-are (q .0) (q .1 .0) (q .1 .1 .0) (q .1 .1 .3) (λ e. absurd (omega (arith, q .1 .1 .1))) (q .1 .1 .2) (c .place-of .ensures .0) (c .before .before .before .before .map-of .ensures) (c .before .held .ensures) (c .before .before .before .extent-at .ensures .0) (c .before .before .before .extent-at .ensures .1 .1)
 
 pub objects-of-spec : {M : Type 1} → statement M
 objects-of-spec = tie.close (tie.spec sub-map-of map-of-requires extent-at-requires slice-aggregate-held held-requires place-of-requires returns)

@@ -10,7 +10,7 @@ use Rattle.values.proofs.pages.places_ok.Tie as tie
 
 abbrev Inv-loop : tie.InvT-loop
 Inv-loop f terms structs tab s n p size to t d g memo₀ many j₀ memo j =
-    (j ≤ many) × (((z : ℕ) → z < j → PlaceOk f s n p size to t d z) × Remembers f (g .term) (g .map) (g .run) to memo)
+    (j ≤ many) × (((z : ℕ) → z < j → PlaceOk f s n p size to t d z) × Remembers f (g .entry) (g .map) (g .run) to memo)
 
 abbrev μ-loop : tie.MeasureT-loop
 μ-loop f terms structs tab s n p size to t d g memo₀ many j₀ memo j = many - j

@@ -1,11 +1,11 @@
--- `objects::term_of` meets its contract: the entry of record 8. Assumes nothing.
+-- `objects::entry_of` meets its contract: the entry of record 8. Assumes nothing.
 use native.Mathlib.Omega.{arith}
 use mathlib.Core.Path.{_∙_}
 use Rattle.stack.specs.Facts.{start-few}
-use Rattle.objects.specs.Homes.{term-is}
+use Rattle.objects.specs.Homes.{entry-is}
 use borrow.Author.Needs.{needs}
-use Rattle.objects.proofs.term_of.Statement.{statement}
-use Rattle.objects.proofs.term_of.Tie as tie
+use Rattle.objects.proofs.entry_of.Statement.{statement}
+use Rattle.objects.proofs.entry_of.Tie as tie
 
 function-requires : tie.Need-function-requires
 function-requires c κs = search needs
@@ -29,10 +29,10 @@ entry-of-requires : tie.Need-entry-of-requires
 entry-of-requires c κs = search needs
 
 returns : tie.Need-returns
-returns c = term-is _ _ _ _ (c .before .before .before .wide .ensures .0 ∙ c .before .before .before .before .function .ensures) (c .before .before .start-of .ensures) (c .before .record-at .ensures) (c .entry-of .ensures .0)
+returns c = entry-is _ _ _ _ (c .before .before .before .wide .ensures .0 ∙ c .before .before .before .before .function .ensures) (c .before .before .start-of .ensures) (c .before .record-at .ensures) (c .entry-of .ensures .0)
 
-pub term-of-spec : {M : Type 1} → statement M
-term-of-spec =
+pub entry-of-spec : {M : Type 1} → statement M
+entry-of-spec =
     tie.close
     (tie.spec
     function-requires
