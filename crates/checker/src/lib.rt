@@ -1,4 +1,5 @@
 // The verdict on a module file, for every byte slice: refusals 1 to 4, then 5 to 8 in the order of their numbers.
+#![tactic(auto)]
 ghost use Rattle.std.specs.Prelude.{◌≡◌, ℕ, ◌<◌, true};
 ghost use Rattle.rules.specs.Decode.{module_of, start_of};
 ghost use Rattle.words.specs.First.{first};

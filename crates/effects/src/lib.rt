@@ -1,5 +1,6 @@
 // The effects of a step: one leaf each, done in place on the lent state, and where the run goes on. An effect is never a value: the
 // kind is the only thing that a step jumps on.
+#![tactic(auto)]
 use state::Machine;
 
 pub mod apply;

@@ -107,10 +107,12 @@ module _ {k : RegionKind} where
   pub has_inside : (a : ℕ) (l : List (Placed k)) (b : ℕ) {d : ℕ} {T : Tree k} → Ordered a l b → Has l d T → (a ≤ d) × (d + width T ≤ b)
   has_inside a (at d T ∷ l) b o here = (o.0, ordered_le (d + width T) l b o.2)
   has_inside a (at d T ∷ l) b o (there h) = let r = has_inside (d + width T) l b o.2 h in (omega (arith, r.0, o.0), r.1)
+  has_inside a [] b {d = d} {T = T} o x'' = elim x'' [ ]
 
   pub has_prim : (a : ℕ) (l : List (Placed k)) (b : ℕ) {d : ℕ} {T : Tree k} → Ordered a l b → Has l d T → Primitive T
   has_prim a (at d T ∷ l) b o here = o.1
   has_prim a (at d T ∷ l) b o (there h) = has_prim (d + width T) l b o.2 h
+  has_prim a [] b {d = d} {T = T} o x'' = elim x'' [ ]
 
 -- two members are one, or lie apart
 pub record Apart {k : RegionKind} (d : ℕ) (T : Tree k) (e : ℕ) (U : Tree k) : Type 0 where
@@ -125,6 +127,7 @@ has_apart a (at d T ∷ l) b o here here = inl (record { place = refl; tree = re
 has_apart a (at d T ∷ l) b o here (there k) = inr (record { gap = inl (has_inside (d + width T) l b o.2 k).0 })
 has_apart a (at d T ∷ l) b o (there h) here = inr (record { gap = inr (has_inside (d + width T) l b o.2 h).0 })
 has_apart a (at d T ∷ l) b o (there h) (there k) = has_apart (d + width T) l b o.2 h k
+has_apart {k = k} a [] b {d = d} {e = e} {T = T} {U = U} o x3 _ = elim x3 [ ]
 
 -- the same of a flat type
 module _ {k : RegionKind} (m : Module) (T : Tree k) where
@@ -361,6 +364,7 @@ good_sized m (ptr T r) g = omega arith
 good_sized m (arr n T) (good_arr h s g) = s
 good_sized m (struct N rs) (good_struct s e) = s
 good_sized m (raw_ptr n r) g = omega arith
+good_sized {k = k} m bytes g = elim g [ ]
 
 -- an element of what has a size has one
 pub element_sized : {k : RegionKind} (m : Module) (n : ℕ) (T : Tree k) → size m (arr n T) ≤ size_limit → n * size m T ≤ size_limit
@@ -391,6 +395,7 @@ module _ {j k : RegionKind} (σ : Region j → Region k) where
   good_sub m (arr n T) (good_arr h s g) = good_arr h (subst (λ (x : ℕ). x ≤ size_limit) (sym (size_sub m (arr n T))) s) (good_sub m T g)
   good_sub m (struct N rs) (good_struct s e) = good_struct (subst (λ (x : ℕ). x ≤ size_limit) (sym (size_sub m (struct N rs))) s) (length-map rs σ ∙ e)
   good_sub m (raw_ptr n r) (good_raw h l) = good_raw h l
+  good_sub m bytes x' = elim x' [ ]
 
 module _ (m : Module) where
   module _ (ls : List (Layout variable)) (known : (N : ℕ) → 0 < (get_or ls N no_layout).size) where
@@ -403,6 +408,7 @@ module _ (m : Module) where
         rw (size_copies n (flat_with ls T)) (split_le (λ (x : ℕ). 0 < x) (n * (flat_with ls T).size) size_limit (n * (flat_with ls T).size) (suc size_limit) (λ _. mul-pos h p) (λ _. omega arith))
     pos_with (struct N rs) g = known N
     pos_with (raw_ptr n r) g = omega arith
+    pos_with {k = k} bytes g = elim g [ ]
 
     pos_beside : (L M : Layout variable) → 0 < M.size → 0 < (beside L M).size
     unfolding beside
@@ -464,6 +470,7 @@ module _ (m : Module) where
         (λ _. uses_copies_of n c (flat_with ls T) v) (λ _. none)
     uses_with n (struct N rs) (good_struct s e) (in_struct u) =
         each_map (placed_in (arg rs)) (uses_placed (m.arity N) n (arg rs) (λ r h. arg_uses n rs r u (rw e h))) (known N)
+    uses_with n bytes g u = elim g [ ]
 
     uses_beside : (n : ℕ) (L M : Layout variable) → PrimsUse n L.prims → PrimsUse n M.prims → PrimsUse n (beside L M).prims
     unfolding beside
@@ -496,6 +503,7 @@ module _ (m : Module) where
         through : (p : Placed variable) → Uses (m.arity N) (type p) → placed_in (arg (map σ rs)) p ≡ placed_in σ (placed_in (arg rs) p)
         through (at d T) u =
             ap {B = Placed k} (at d) (sub_agree (m.arity N) (arg (map σ rs)) (λ v. σ (arg rs v)) T u (λ v h. arg_map σ rs v (rw e h)) ∙ sym (sub_sub σ (arg rs) T))
+    with_sub {j = j} {k = k} σ bytes g = elim g [ ]
 
   module _ (ok : TypesOk m) where
     uses_layouts : (n : ℕ) → n ≤ m.structs → (N : ℕ) → PrimsUse (m.arity N) (get_or (layouts m n) N no_layout).prims

@@ -56,6 +56,7 @@ pub has_placed_inv : {j k : RegionKind} (σ : Region j → Region k) (l : List (
     → Has (map (placed_in σ) l) d T → (U : Tree j) × Has l d U × (T ≡ sub σ U)
 has_placed_inv σ (at e U ∷ l) here = (U, here, refl)
 has_placed_inv σ (at e U ∷ l) (there h) = let r = has_placed_inv σ l h in (r.0, there r.1, r.2)
+has_placed_inv {j = j} {k = k} σ [] {d = d} {T = T} x' = elim x' [ ]
 
 pub has_take : {k : RegionKind} (n : ℕ) (l : List (Placed k)) {d : ℕ} {T : Tree k} → Has (take n l) d T → Has l d T
 has_take zero l h = elim h [ ]
@@ -75,6 +76,7 @@ has_some (there h) = omega arith
 pub has_each : {k : RegionKind} (P : Tree k → Type 0) {l : List (Placed k)} {d : ℕ} {T : Tree k} → Each (λ p. P (type p)) l → Has l d T → P T
 has_each P (more q u) here = q
 has_each P (more q u) (there h) = has_each P u h
+has_each {k = k} P {d = d} {T = T} none x3 = elim x3 [ ]
 
 pub at_has : {k : RegionKind} (l : List (Placed k)) (i : ℕ) (z : Placed k) → i < length l → Has l (off (get_or l i z)) (type (get_or l i z))
 at_has [] i z h = absurd (not-suc-le-zero h)

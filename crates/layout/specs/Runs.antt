@@ -272,7 +272,7 @@ module _ {k : RegionKind} where
 module _ {j k : RegionKind} (σ : Region j → Region k) where
   pub nth_sub : (L : Layout j) (i : ℕ) → nth (sub_layout σ L) i ≡ placed_in σ (nth L i)
   unfolding sub_layout sub
-  nth_sub L i = ListN.get_d_map (placed_in σ) L.prims i (at 0 (int 0))
+  nth_sub L i = ListN.get_or-map (placed_in σ) L.prims i (at 0 (int 0))
 
   pub distance_sub : (L : Layout j) (q : ℕ) → distance (sub_layout σ L) q ≡ distance L q
   distance_sub L q = ap off (nth_sub L q) ∙ placed_off σ (nth L q)

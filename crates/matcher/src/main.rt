@@ -1,5 +1,6 @@
 // The program of document 01: reads the files `module` and `form` of the folder that it is run in and prints the lines that `report` makes
 // of their bytes. A file that cannot be read gets a message on standard error and no line.
+#![tactic(auto)]
 ghost use Rattle.std.specs.Prelude.{◌≡◌, true, ◌<◌, length};
 ghost use Rattle.io.specs.Counts.{IsPrefixLen};
 

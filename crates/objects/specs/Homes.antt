@@ -115,7 +115,7 @@ local_by f s k r {h} {a} {n} {j} eh ea en l ej =
 
 pub entry_is : (f s : Bytes) (k i : ℕ) {g h v : ℕ} {x : Record} → g ≡ frame_function s k → h ≡ start_of f g → x ≡ record_of f (h + 1) → v ≡ entry_of x i → v ≡ entry_at f s k i
 unfolding entry_at
-entry_is f s k i eg eh ex et = et ∙ ap (λ (x : Record). entry_of x i) (ex ∙ rw (eh, eg))
+entry_is f s k i eg eh ex et = et ∙ ap (λ (x : Record). entry_of x i) (ex ∙ ap (λ (j : ℕ). record_of f (j + 1)) (eh ∙ ap (start_of f) eg))
 
 -- ---- the type
 

@@ -1,5 +1,6 @@
 // Objects of a state that nobody has tested: which frame's type a live region has, the extent of its objects, and the object around an
 // address. The file's tables are handed over; nothing is asked of the state.
+#![tactic(auto)]
 ghost use Rattle.std.specs.Prelude.{◌≡◌, suc, ◌<◌, ◌≤◌};
 ghost use Rattle.rules.specs.Limits.{size_limit, page_bytes};
 ghost use Rattle.rules.specs.Flat.{flat, size};

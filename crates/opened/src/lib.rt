@@ -1,5 +1,6 @@
 // An opened module: a view over the lent file with its table starts, as a struct. Its reader stands over a covered function on the slice
 // and the tables; `head_of` serves callers that hold no such struct, as opening does.
+#![tactic(auto)]
 ghost use Rattle.std.specs.Prelude.{◌≡◌};
 ghost use Rattle.rules.specs.Walk.{whole};
 ghost use Rattle.rules.specs.Records.{head_of};

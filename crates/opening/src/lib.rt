@@ -1,4 +1,5 @@
 // Opening: the first state of an accepted module, function 0 with its arguments.
+#![tactic(auto)]
 ghost use Rattle.rules.specs.Verdict.{verdict_of, IsAccepted};
 ghost use Rattle.rules.specs.Host.{open_of, open_at};
 ghost use Rattle.opening.specs.Opening.{OpenedBy};

@@ -1,5 +1,6 @@
 // Kinds 27 and 28 in code: the lowest unused place of a page, the lowest page with room or without an owner, and what a new or a freed
 // object writes. The state is trusted: nothing is tested that an accepted module and a tested state guarantee.
+#![tactic(auto)]
 ghost use Rattle.std.specs.Prelude.{◌≡◌, [], ◌∷◌, ◌+◌, ◌*◌, ◌<◌, ◌≤◌, length};
 ghost use Rattle.words.specs.Bytes.{Bytes};
 ghost use Rattle.rules.specs.Limits.{state_bytes, pages, page_bytes, live_regions, mark_bytes};

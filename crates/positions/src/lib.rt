@@ -1,6 +1,7 @@
 // Positions of primitives: document 01, "Flat types"; sizes, counts and distances that kinds 23, 24, 27 and 28, preparing and the state
 // test ask for. A table of extents is filled once for a file; all else asks for that table, and nothing of the file's contents.
 // A substitution is lent as bytes, that of variable 0 first, and held as eight.
+#![tactic(auto)]
 ghost use Rattle.std.specs.Prelude.{◌≡◌, ℕ, ◌+◌, ◌*◌, ◌/◌, ◌<◌, ◌≤◌, length};
 ghost use Rattle.rules.specs.Limits.{size_limit};
 ghost use Rattle.rules.specs.Flat.{flat, count, size, distance, position_at};

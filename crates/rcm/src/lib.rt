@@ -1,4 +1,5 @@
 // The C interface: include/rcm.h. Each function's contract gives the numbers of its answer by a definition of rules' specs/Host.antt.
+#![tactic(auto)]
 ghost use Rattle.std.specs.Prelude.{◌≡◌, ◌+◌, ◌*◌, ◌≤◌};
 ghost use Rattle.rules.specs.Limits.{most_functions, most_instructions};
 ghost use Rattle.rules.specs.Verdict.{verdict_of};

@@ -1,4 +1,5 @@
 // The types that the definitions of specs/ and the code share, and document 01's numbers (limits).
+#![tactic(auto)]
 pub mod limits;
 
 // The verdict on a module file. Accepted: terms, names, functions, instructions. Refused: document 01's number and place.

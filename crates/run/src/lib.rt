@@ -1,4 +1,5 @@
 // A run with a budget: steps over prepared words until the budget is used, the module ends or a step stops; and what came of it.
+#![tactic(auto)]
 ghost use Rattle.std.specs.Prelude.{◌≡◌, length};
 ghost use Rattle.rules.specs.Limits.{state_bytes};
 ghost use Rattle.rules.specs.State.{view};

@@ -21,6 +21,7 @@ use Rattle.soundness.specs.Step.{Test}
 each_has : {k : RegionKind} (P : Placed k → Type 0) {l : List (Placed k)} {d : ℕ} {T : Tree k} → Each P l → Has l d T → P (at d T)
 each_has P (more h e) here = h
 each_has P (more h e) (there i) = each_has P e i
+each_has {k = k} P {d = d} {T = T} none x3 = elim x3 [ ]
 
 has_each : {k : RegionKind} (P : Placed k → Type 0) (l : List (Placed k)) → ((d : ℕ) (T : Tree k) → Has l d T → P (at d T)) → Each P l
 has_each P [] f = none

@@ -1,6 +1,7 @@
 // Type terms read from a module file: document 01, "The module file" and "Flat types". Each contract is an equation with the
 // definitions of `rules`, for all bytes; a term number that names nothing reads as `no_tree`. A term's place is one more than its
 // number, and place 0 is what is not there: so the places inside a term are lower, and a walk along a term ends.
+#![tactic(auto)]
 ghost use Rattle.std.specs.Prelude.{◌≡◌, max, suc, ◌+◌, ◌*◌, ◌<◌, ◌≤◌, length};
 ghost use Rattle.rules.specs.Limits.{size_limit};
 ghost use Rattle.rules.specs.Decode.{module_of};

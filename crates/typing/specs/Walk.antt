@@ -293,6 +293,7 @@ module _ (f : Bytes) (t : Scan) (w : Walk) (r : ℕ) where
 
           over : suc r ≡ skip f (code_at f w.head) (suc n)
           over = sym next_at ∙ ap (after f) a ∙ sym (skip_suc f (code_at f w.head) n)
+  after_step Broken q x3 e = elim x3 [ ]
   after_step Arguments q (in_arguments n h a b c z) e = unfold arguments_fit in wanted kind_arguments (done w) _ e (is_done f w h (suc r) n over b c)
     where
       next_at : after f (skip f (code_at f w.head) n) ≡ suc r
@@ -488,3 +489,4 @@ module _ (f : Bytes) (ok : Fits f) where
       go Code s e = absurd (false≢true e)
       go Arguments s e = absurd (false≢true e)
       go Filler (in_filler_law s) e = s.some
+      go Broken s e = elim s [ ]
