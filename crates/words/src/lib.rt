@@ -1,6 +1,7 @@
 // Numbers in lent bytes: total readers for what is not trusted, readers and writers without a test for the hot loop, and the bits of a
 // byte. Each contract is an equation with the definition in specs/, for every byte that is lent.
 #![tactic(auto)]
+
 ghost use Rattle.std.specs.Prelude.{◌≡◌, ◌+◌, ◌%◌, ◌≤◌, ◌<◌, length};
 ghost use Rattle.words.specs.Bytes.{byte_at, number, put, fill};
 ghost use Rattle.words.specs.Bits.{bit, with_bit};

@@ -1,0 +1,23 @@
+-- `words::store` meets its contract: by the width, one put in each arm. Assumes nothing.
+use native.Mathlib.Omega.{arith}
+use Rattle.words.specs.ByteLaws.{put_one}
+use Rattle.words.specs.Widths.{width_one, width_two, width_four}
+use Rattle.words.proofs.store.Goals as goal
+
+pub put_word-requires : goal.put_word-requires
+put_word-requires c = let h = width_four c.args.w c.if-w.true in omega arith
+
+pub bounds-s-i : goal.bounds-s-i
+bounds-s-i c = let h = width_one c.args.w c.if-w-eq1.true in omega arith
+
+pub put_half-requires : goal.put_half-requires
+put_half-requires c = let h = width_two c.args.w c.if-w.false c.if-w-eq1.false in omega arith
+
+pub returns-then-w : goal.returns-then-w
+returns-then-w c = rw (width_four _ c.if-w.true) c.put_word.ensures
+
+pub returns-then-w-eq1 : goal.returns-then-w-eq1
+returns-then-w-eq1 c = rw (width_one _ c.if-w-eq1.true, put_one) (cc)
+
+pub returns-else-w-eq1 : goal.returns-else-w-eq1
+returns-else-w-eq1 c = rw (width_two _ c.if-w.false c.if-w-eq1.false) c.put_half.ensures
