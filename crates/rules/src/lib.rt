@@ -1,9 +1,10 @@
 // The types that the definitions of specs/ and the code share, and document 01's numbers (limits).
 #![tactic(auto)]
+
 pub mod limits;
 
 // The verdict on a module file. Accepted: terms, names, functions, instructions. Refused: document 01's number and place.
-#[derive(Drop)]
+#[derive(Clone, Copy)]
 pub enum Verdict {
     Accepted {
         terms: usize,
@@ -18,7 +19,7 @@ pub enum Verdict {
 }
 
 // A record of the file: byte 0, bytes 1 to 3, bytes 4 to 7.
-#[derive(Drop)]
+#[derive(Clone, Copy)]
 pub struct Record {
     pub kind: u8,
     pub a: u8,
@@ -28,14 +29,14 @@ pub struct Record {
 }
 
 // The pages that a machine may own: of pages 1 to 63 all but so many at the low end and so many at the high end.
-#[derive(Drop)]
+#[derive(Clone, Copy)]
 pub struct PageRange {
     pub below: u8,
     pub above: u8,
 }
 
 // The instructions by their kinds: "the ranges above" of document 01, by which typing rule and step are chosen.
-#[derive(Drop)]
+#[derive(Clone, Copy)]
 pub enum Group {
     Arithmetic,
     Memory,
@@ -43,7 +44,7 @@ pub enum Group {
 }
 
 // What the next record of the file is to be.
-#[derive(Drop)]
+#[derive(Clone, Copy)]
 pub enum Phase {
     // a term, or the first name or function
     Terms,
@@ -70,7 +71,7 @@ pub enum Phase {
 // What is known before a record: what it is to be; how many terms, names and functions came before; of the
 // last function its record 7, regions, registers and instructions; how many fields, regions, registers or instructions
 // are still to come; and the function that the last instruction calls.
-#[derive(Drop)]
+#[derive(Clone, Copy)]
 pub struct Walk {
     pub phase: Phase,
     pub terms: usize,

@@ -1,0 +1,7 @@
+-- `state::fields::clear_memory` meets its contract: zeros at its place. Assumes nothing.
+use Rattle.state.specs.Fields.{fill_at}
+use mathlib.Core.Path.{◌∙◌}
+use Rattle.state.proofs.fields.clear_memory.Goals as goal
+
+pub returns : goal.returns
+returns c = c.clear.ensures ∙ fill_at _ _ _ _ c.memory_place.ensures

@@ -1,0 +1,15 @@
+-- `state::total::mark` meets its contract: in range the bit at its place, else 0. Assumes nothing.
+use Rattle.state.specs.Fields.{mark_read}
+use Rattle.state.specs.Reads.{mark_past}
+use mathlib.Core.Logic.{inl, inr}
+use mathlib.Core.Path.{sym, ◌∙◌}
+use Rattle.state.proofs.total.mark.Goals as goal
+
+pub returns-then-j-lt-PAGE_BYTES : goal.returns-then-j-lt-PAGE_BYTES
+returns-then-j-lt-PAGE_BYTES c = c.bit_of.ensures.0 ∙ mark_read _ _ _ _ _ c.byte.ensures c.mark_place.ensures c.if-p-lt-PAGES.true c.if-j-lt-PAGE_BYTES.true
+
+pub returns-else-j-lt-PAGE_BYTES : goal.returns-else-j-lt-PAGE_BYTES
+returns-else-j-lt-PAGE_BYTES c = sym (mark_past _ (inr c.if-j-lt-PAGE_BYTES.false))
+
+pub returns-else-p-lt-PAGES : goal.returns-else-p-lt-PAGES
+returns-else-p-lt-PAGES c = sym (mark_past _ (inl c.if-p-lt-PAGES.false))
