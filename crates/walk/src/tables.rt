@@ -10,7 +10,7 @@ use rules::limits::CALLEES;
 use rules::{Record, Walk};
 
 // The walk of a whole file, and where function g starts, for each g below 256; 0 where the walk reached no such function.
-#[derive(Drop)]
+#[derive(Clone, Copy)]
 pub struct Tables {
     pub walk: Walk,
     pub starts: [usize; CALLEES],
