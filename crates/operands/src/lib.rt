@@ -1,6 +1,7 @@
 // The operands of an instruction, by one table, and the entries of a record. Each test is the definition of the same name in rules'
 // specs/Operands.antt and specs/Records.antt.
 #![tactic(auto)]
+
 ghost use Rattle.std.specs.Prelude.{◌≡◌, ◌-◌};
 ghost use Rattle.rules.specs.File.{first_arithmetic};
 ghost use Rattle.rules.specs.Operands.{classes_of, operand_fits};
