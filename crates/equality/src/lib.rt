@@ -69,7 +69,7 @@ pub fn same_places(f: &[u8], a: usize, p: &[u8], b: usize, q: &[u8]) -> bool
 // Whether terms a and b are equal, under p and under q.
 pub fn same(f: &[u8], n: usize, a: usize, p: &[u8], b: usize, q: &[u8]) -> bool
     requires { Terms f.now n }
-    ensures* { do let m = module_of f.now in ⌜ (result ≡ does (dec_tree (sub (under {k = variable} p.now) (m.term a)) (sub (under q.now) (m.term b)))) × (result ≡ does (dec_tree (sub (under {k = live} p.now) (m.term a)) (sub (under q.now) (m.term b)))) ⌝ }
+    ensures { let m = module_of f.now in (result ≡ does (dec_tree (sub (under {k = variable} p.now) (m.term a)) (sub (under q.now) (m.term b)))) × (result ≡ does (dec_tree (sub (under {k = live} p.now) (m.term a)) (sub (under q.now) (m.term b)))) }
 {
     same_places(f, place_of(n, a), p, place_of(n, b), q)
 }
@@ -90,7 +90,7 @@ fn identity() -> [u8; 256]
 // Whether terms a and b are equal as they are written.
 pub fn equal(f: &[u8], n: usize, a: usize, b: usize) -> bool
     requires { Terms f.now n }
-    ensures* { do let m = module_of f.now in ⌜ result ≡ does (dec_tree (m.term a) (m.term b)) ⌝ }
+    ensures { let m = module_of f.now in result ≡ does (dec_tree (m.term a) (m.term b)) }
 {
     // most terms that are compared are one and the same
     if a == b {
@@ -103,7 +103,7 @@ pub fn equal(f: &[u8], n: usize, a: usize, b: usize) -> bool
 // Whether term a, as it is written, is term b with the regions q put in: the types of a call.
 pub fn equal_under(f: &[u8], n: usize, a: usize, b: usize, q: &[u8]) -> bool
     requires { Terms f.now n }
-    ensures* { do let m = module_of f.now in ⌜ result ≡ does (dec_tree (m.term a) (sub (under q.now) (m.term b))) ⌝ }
+    ensures { let m = module_of f.now in result ≡ does (dec_tree (m.term a) (sub (under q.now) (m.term b))) }
 {
     let id = identity();
     same(f, n, a, &id, b, q)

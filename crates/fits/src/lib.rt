@@ -1,6 +1,7 @@
 // Refusal 4, record by record: what a record of each kind may hold. Each function is the definition of the same name in rules'
 // specs/Records.antt, where w is the walk before the record, and end and starts are what is known of the whole file.
 #![tactic(auto)]
+
 ghost use Rattle.std.specs.Prelude.{◌≡◌, cond, ◌&&◌, ◌<◌, eqb};
 ghost use Rattle.rules.specs.File.{is_term, kind_name, kind_function};
 ghost use Rattle.rules.specs.Walk.{whole, names_end, is_end};

@@ -111,7 +111,7 @@ pub fn term_written(
     at: usize,
     tab: &[u64],
 )
-    requires* { do let L = term_layout f.now k p in ⌜ (p ≤ n) × (off + L.size ≤ size_limit) × (at + count L ≤ size_limit) × (Keeps to) × (Known f.now n k tab.now) × (Room subs.old spots.old) × (k ≤ most_structs) × (Past f.now subs.old spots.old at off) ⌝ }
+    requires { let L = term_layout f.now k p in (p ≤ n) × (off + L.size ≤ size_limit) × (at + count L ≤ size_limit) × (Keeps to) × (Known f.now n k tab.now) × (Room subs.old spots.old) × (k ≤ most_structs) × (Past f.now subs.old spots.old at off) }
     ensures { (Written f.now subs.new spots.new at to off (term_layout f.now k p)) × (Kept subs.old spots.old subs.new spots.new at) × (Past f.now subs.new spots.new (at + count (term_layout f.now k p)) (off + (term_layout f.now k p).size)) }
 {
     let e = positions::extent_in(tab, p);
@@ -152,7 +152,7 @@ fn copies_written(
     at: usize,
     tab: &[u64],
 )
-    requires* { do let L = term_layout f.now k a in ⌜ (a ≤ n) × (off + many * L.size ≤ size_limit) × (at + many * count L ≤ size_limit) × (Keeps to) × (Known f.now n k tab.now) × (Room subs.old spots.old) × (k ≤ most_structs) × (Past f.now subs.old spots.old at off) ⌝ }
+    requires { let L = term_layout f.now k a in (a ≤ n) × (off + many * L.size ≤ size_limit) × (at + many * count L ≤ size_limit) × (Keeps to) × (Known f.now n k tab.now) × (Room subs.old spots.old) × (k ≤ most_structs) × (Past f.now subs.old spots.old at off) }
     ensures { (Written f.now subs.new spots.new at to off (copies_of many (term_layout f.now k a))) × (Kept subs.old spots.old subs.new spots.new at) × (Past f.now subs.new spots.new (at + many * count (term_layout f.now k a)) (off + many * (term_layout f.now k a).size)) }
 {
     if many == 0 {
@@ -183,7 +183,7 @@ fn struct_written(
     at: usize,
     tab: &[u64],
 )
-    requires* { do let L = struct_layout f.now number in ⌜ (number < most_structs) × (off + L.size ≤ size_limit) × (at + count L ≤ size_limit) × (Keeps to) × (Known f.now n number tab.now) × (Room subs.old spots.old) × (Past f.now subs.old spots.old at off) × (many ≡ count L) × (0 < many) ⌝ }
+    requires { let L = struct_layout f.now number in (number < most_structs) × (off + L.size ≤ size_limit) × (at + count L ≤ size_limit) × (Keeps to) × (Known f.now n number tab.now) × (Room subs.old spots.old) × (Past f.now subs.old spots.old at off) × (many ≡ count L) × (0 < many) }
     ensures { (Written f.now subs.new spots.new at to off (struct_layout f.now number)) × (Kept subs.old spots.old subs.new spots.new at) × (Past f.now subs.new spots.new (at + count (struct_layout f.now number)) (off + (struct_layout f.now number).size)) }
 {
     let seen = entry(subs, spots, MEMO + number);

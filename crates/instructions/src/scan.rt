@@ -67,7 +67,7 @@ pub fn first_instruction(
     requires fact_3 { Tight (function_at f.now h) }
     requires fact_4 { h < place_limit }
     requires fact_5 { Remembered f.now known.old }
-    ensures* { do let F = function_at f.now h in ⌜ (result.index ≡ first F.code_length (instruction_test (module_of f.now) F)) × (result.index < F.code_length → result.place ≡ place_in f.now h result.index) × (F.code_length ≤ result.index → result.place ≡ place_in f.now h (F.code_length - 1)) × (Remembered f.now known.new) ⌝ }
+    ensures { let F = function_at f.now h in (result.index ≡ first F.code_length (instruction_test (module_of f.now) F)) × (result.index < F.code_length → result.place ≡ place_in f.now h result.index) × (F.code_length ≤ result.index → result.place ≡ place_in f.now h (F.code_length - 1)) × (Remembered f.now known.new) }
 {
     let x = walk::file::record_at(f, h);
     let count = walk::file::instructions_of(x);

@@ -292,7 +292,7 @@ pub fn extents(f: &[u8], n: usize, k: usize) -> [u64; MOST_TERMS]
 // Size and number of primitives of term t.
 pub fn extent_at(n: usize, t: usize, tab: &[u64], f: &[u8], k: usize) -> Extent
     requires { Table f.now n k tab.now }
-    ensures* { do let m = module_of f.now in ⌜ (result ≡ exact_of (flat m (m.term t))) × (Small result) ⌝ }
+    ensures { let m = module_of f.now in (result ≡ exact_of (flat m (m.term t))) × (Small result) }
 {
     extent_in(tab, terms::place_of(n, t))
 }
@@ -311,7 +311,7 @@ fn term_prim(
     i: usize,
     tab: &[u64],
 ) -> Primitive
-    requires* { do let L = term_layout f.now k p in ⌜ (p ≤ n) × (off + L.size ≤ size_limit) × (i < count L) × (Keeps to) × (Known f.now n k tab.now) × (i < size_limit) ⌝ }
+    requires { let L = term_layout f.now k p in (p ≤ n) × (off + L.size ≤ size_limit) × (i < count L) × (Keeps to) × (Known f.now n k tab.now) × (i < size_limit) }
     ensures { (Found f.now result to off (nth (term_layout f.now k p) i)) × (result.place ≤ n) × (result.off ≤ size_limit) }
 {
     match core_in(tab, p) {
@@ -348,7 +348,7 @@ fn struct_prim(
     i: usize,
     tab: &[u64],
 ) -> Primitive
-    requires* { do let L = struct_layout f.now number in ⌜ (number < 256) × (off + L.size ≤ size_limit) × (i < count L) × (Keeps to) × (Known f.now n number tab.now) × (i < size_limit) ⌝ }
+    requires { let L = struct_layout f.now number in (number < 256) × (off + L.size ≤ size_limit) × (i < count L) × (Keeps to) × (Known f.now n number tab.now) × (i < size_limit) }
     ensures { (Found f.now result to off (nth (struct_layout f.now number) i)) × (result.place ≤ n) × (result.off ≤ size_limit) }
 {
     let first = n + 2 * number;
@@ -419,7 +419,7 @@ fn lower(f: &[u8], n: usize, k: usize, p: usize, o: usize, many: usize, tab: &[u
 // The position of term t whose distance is o: the number of its primitives where there is none.
 pub fn position_at(f: &[u8], n: usize, k: usize, t: usize, o: usize, tab: &[u64]) -> usize
     requires { Table f.now n k tab.now }
-    ensures* { do let m = module_of f.now in ⌜ result ≡ position_at (flat m (m.term t)) o ⌝ }
+    ensures { let m = module_of f.now in result ≡ position_at (flat m (m.term t)) o }
 {
     let p = terms::place_of(n, t);
     let e = extent_in(tab, p);
@@ -437,7 +437,7 @@ pub fn position_at(f: &[u8], n: usize, k: usize, t: usize, o: usize, tab: &[u64]
 // Kind 23: the distance of position d of term t, 0 where there is none.
 pub fn distance(f: &[u8], n: usize, k: usize, t: usize, d: usize, tab: &[u64]) -> usize
     requires { Table f.now n k tab.now }
-    ensures* { do let m = module_of f.now in ⌜ result ≡ distance (flat m (m.term t)) d ⌝ }
+    ensures { let m = module_of f.now in result ≡ distance (flat m (m.term t)) d }
 {
     let p = terms::place_of(n, t);
     let e = extent_in(tab, p);

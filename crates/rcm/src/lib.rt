@@ -106,7 +106,7 @@ pub extern "C" fn rcm_check(file: &[u8], answer: &mut [u64; 4])
 // Opening: the first state of a module.
 #[unsafe(no_mangle)]
 pub extern "C" fn rcm_open(file: &[u8], arguments: &[u8], state: &mut [u8], answer: &mut [u64; 4])
-    ensures* { do let w = open_of file.now arguments.now state.old in ⌜ (answer.new ≡ open_numbers w) × (state.new ≡ left_opened w state.old) ⌝ }
+    ensures { let w = open_of file.now arguments.now state.old in (answer.new ≡ open_numbers w) × (state.new ≡ left_opened w state.old) }
 {
     let r = opening::open(file, arguments, state);
     *answer = open_numbers(r);
@@ -122,7 +122,7 @@ pub extern "C" fn rcm_go(
     budget: u64,
     answer: &mut [u64; 4],
 )
-    ensures* { do let w = go_of file.now form.now state.old output.old budget in ⌜ (answer.new ≡ go_numbers w) × (state.new ≡ left_state w state.old) × (output.new ≡ left_output w output.old) ⌝ }
+    ensures { let w = go_of file.now form.now state.old output.old budget in (answer.new ≡ go_numbers w) × (state.new ≡ left_state w state.old) × (output.new ≡ left_output w output.old) }
 {
     let r = host::go::go(file, form, state, output, budget);
     *answer = go_numbers(r);

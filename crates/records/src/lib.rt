@@ -1,6 +1,7 @@
 // Refusal 4: each record against what the walk over the file says that it is to be; and refusals 1 to 4 together. Each contract is an
 // equation with a definition of rules' specs/ or of specs/, for every byte slice.
 #![tactic(auto)]
+
 ghost use Rattle.std.specs.Prelude.{◌≡◌, ℕ, ◌+◌, ◌<◌, ◌≤◌, true};
 ghost use Rattle.words.specs.First.{first};
 ghost use Rattle.rules.specs.File.{records};
@@ -108,7 +109,7 @@ pub fn record_rules(f: &[u8], t: Tables) -> Outcome
 }
 
 // What refusals 1 to 4 say of a file, and its tables, where it is framed.
-#[derive(Drop)]
+#[derive(Clone, Copy)]
 pub struct Checked {
     pub outcome: Outcome,
     pub tables: Tables,

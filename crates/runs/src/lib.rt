@@ -165,7 +165,7 @@ pub fn run_from(
     tab: &[u64],
 ) -> bool
     requires { (Table f.now n k tab.now) × (length p.now ≤ 8) × (length q.now ≤ 8) }
-    ensures* { do let m = module_of f.now in ⌜ (result ≡ does (dec_run (flat m (sub (under {k = variable} p.now) (m.term u))) d (flat m (sub (under q.now) (m.term t))))) × (result ≡ does (dec_run (flat m (sub (under {k = live} p.now) (m.term u))) d (flat m (sub (under q.now) (m.term t))))) ⌝ }
+    ensures { let m = module_of f.now in (result ≡ does (dec_run (flat m (sub (under {k = variable} p.now) (m.term u))) d (flat m (sub (under q.now) (m.term t))))) × (result ≡ does (dec_run (flat m (sub (under {k = live} p.now) (m.term u))) d (flat m (sub (under q.now) (m.term t))))) }
 {
     let a = terms::place_of(n, u);
     let b = terms::place_of(n, t);

@@ -35,7 +35,7 @@ fn field_term(f: &[u8], n: usize, number: usize, i: usize) -> usize
 // A struct term has as many arguments as its struct has regions.
 fn counts(f: &[u8], n: usize, t: usize) -> bool
     requires { Terms f.now n }
-    ensures* { do let m = module_of f.now in ⌜ result ≡ does (dec_counts m (m.term t)) ⌝ }
+    ensures { let m = module_of f.now in result ≡ does (dec_counts m (m.term t)) }
 {
     let x = terms::head_term(f, n, t);
     let regions = arity(f, n, terms::main_no(x));

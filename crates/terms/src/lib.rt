@@ -2,6 +2,7 @@
 // definitions of `rules`, for all bytes; a term number that names nothing reads as `no_tree`. A term's place is one more than its
 // number, and place 0 is what is not there: so the places inside a term are lower, and a walk along a term ends.
 #![tactic(auto)]
+
 ghost use Rattle.std.specs.Prelude.{◌≡◌, max, suc, ◌+◌, ◌*◌, ◌<◌, ◌≤◌, length};
 ghost use Rattle.rules.specs.Limits.{size_limit};
 ghost use Rattle.rules.specs.Decode.{module_of};
@@ -19,7 +20,7 @@ use rules::Record;
 use rules::limits::SIZE_LIMIT;
 
 // What a term's record says: inner terms by place, region arguments by how many, and the number that holds them.
-#[derive(Drop)]
+#[derive(Clone, Copy)]
 pub enum Head {
     // an integer of so many bytes
     Int(usize),
@@ -40,7 +41,7 @@ pub const UNTYPED: usize = 255;
 const NO_SIZE: usize = SIZE_LIMIT + 1;
 
 // Size in bytes and number of primitives. The number is exact up to the limit, and one more above.
-#[derive(Drop)]
+#[derive(Clone, Copy)]
 pub struct Extent {
     pub size: usize,
     pub count: usize,
@@ -48,10 +49,10 @@ pub struct Extent {
 
 // A region variable as it is written in the code, and a live region of the machine. Only a region map, as it lies in the state,
 // leads from one to the other.
-#[derive(Drop)]
+#[derive(Clone, Copy)]
 pub struct Variable(pub u8);
 
-#[derive(Drop)]
+#[derive(Clone, Copy)]
 pub struct Live(pub u8);
 
 // ---- numbers
@@ -287,7 +288,7 @@ pub fn struct_extent(f: &[u8], n: usize, number: usize) -> Extent
 // The extents of term t and of struct `number` of a file with n terms and k structs.
 pub fn extent_of_term(f: &[u8], n: usize, k: usize, t: usize) -> Extent
     requires { Counted f.now n k }
-    ensures* { do let m = module_of f.now in ⌜ (result ≡ extent_of (flat m (m.term t))) × (Small result) ⌝ }
+    ensures { let m = module_of f.now in (result ≡ extent_of (flat m (m.term t))) × (Small result) }
 {
     term_extent(f, n, k, place_of(n, t))
 }
