@@ -1,6 +1,7 @@
 // Type terms compared under substitutions: whether the types that two terms mean are equal, once regions are put in for their variables.
 // Each contract is an equation with the definitions of `rules`, for all bytes. A substitution is a list of bytes, that of variable 0 first.
 #![tactic(auto)]
+
 ghost use Rattle.std.specs.Prelude.{◌≡◌};
 ghost use Rattle.words.specs.Decide.{does};
 ghost use Rattle.rules.specs.Decode.{module_of};

@@ -2,6 +2,7 @@
 // test ask for. A table of extents is filled once for a file; all else asks for that table, and nothing of the file's contents.
 // A substitution is lent as bytes, that of variable 0 first, and held as eight.
 #![tactic(auto)]
+
 ghost use Rattle.std.specs.Prelude.{◌≡◌, ℕ, ◌+◌, ◌*◌, ◌/◌, ◌<◌, ◌≤◌, length};
 ghost use Rattle.rules.specs.Limits.{size_limit};
 ghost use Rattle.rules.specs.Flat.{flat, count, size, distance, position_at};
@@ -18,7 +19,7 @@ use rules::limits::MOST_TERMS;
 use terms::{Extent, Head};
 
 // A primitive: its distance in bytes, and the place of its term with the regions put for its variables.
-#[derive(Drop)]
+#[derive(Clone, Copy)]
 pub struct Primitive {
     pub off: usize,
     pub place: usize,
@@ -26,7 +27,7 @@ pub struct Primitive {
 }
 
 // What is left of a term when arrays of one are taken off, and structs whose only field is a struct: the way to a primitive passes none of them.
-#[derive(Drop)]
+#[derive(Clone, Copy)]
 pub enum Core {
     // the term at a place, which is no struct
     Term(usize),
@@ -201,7 +202,7 @@ pub fn held(to: &[u8]) -> [u8; 8]
 // ---- cores
 
 // A struct, for four regions, a byte of the number each.
-#[derive(Drop)]
+#[derive(Clone, Copy)]
 struct Inner {
     number: usize,
     regions: usize,
