@@ -1,6 +1,7 @@
 // Terms written out: every primitive of a term, found in one walk over it, so that a long run is compared without a descent for each.
 // An entry of `subs` is what stands for each variable; that of `spots` is the place of the primitive's term and its distance.
 #![tactic(auto)]
+
 ghost use Rattle.std.specs.Prelude.{◌≡◌, true, ◌+◌, ◌*◌, ◌<◌, ◌≤◌, set};
 ghost use Rattle.rules.specs.Limits.{most_structs, size_limit};
 ghost use Rattle.rules.specs.Flat.{count, copies_of};
