@@ -2,6 +2,7 @@
 // 22, 23, 27, 28 and 39 and the state test ask of types. All but the last ask
 // for the table of extents, and nothing of the file's contents. A substitution is lent as bytes, that of variable 0 first.
 #![tactic(auto)]
+
 ghost use Rattle.std.specs.Prelude.{◌≡◌, ◌+◌, ◌<◌, ◌≤◌, length};
 ghost use Rattle.words.specs.Decide.{does};
 ghost use Rattle.rules.specs.Limits.{size_limit, page_bytes};

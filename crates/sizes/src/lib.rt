@@ -1,6 +1,7 @@
 // Refusal 5: the sizes of terms and structs, argument counts, and the regions that fields use. Each contract is an equation with a
 // definition of rules' specs/ or of specs/; what is asked of the file is what refusals 1 to 4 have established.
 #![tactic(auto)]
+
 ghost use Rattle.std.specs.Prelude.{◌≡◌, ◌<◌};
 ghost use Rattle.words.specs.First.{first};
 ghost use Rattle.words.specs.Decide.{does};

@@ -1,0 +1,9 @@
+-- `functions::declared::declared` meets its contract: by the callees' contracts.
+use mathlib.Core.Path.{ap₂}
+use mathlib.Core.Bool.{◌&&◌}
+use Rattle.functions.specs.Declared.{declared}
+use Rattle.functions.proofs.declared.declared.Goals as goal
+
+pub returns : goal.returns
+unfolding declared
+returns c = ap₂ ◌&&◌ c.regions_fit.ensures (ap₂ ◌&&◌ c.registers_fit.ensures c.result_fits.ensures)

@@ -1,0 +1,14 @@
+-- `functions::declared::result_fits` meets its contract: by the callees' contracts.
+use mathlib.Core.Path.{ap, ap₂, ◌∙◌}
+use mathlib.Core.Bool.{◌&&◌}
+use Rattle.functions.specs.Declared.{result_fits_law}
+use Rattle.rules.specs.Decode.{module_of}
+use Rattle.rules.specs.File.{return_of}
+use Rattle.words.specs.Decide.{does}
+use Rattle.rules.specs.Types.{dec_uses, dec_primitive}
+use Rattle.rules.specs.declared.Record.{Record}
+use Prim.Native.Nat.{ℕ}
+use Rattle.functions.proofs.declared.result_fits.Goals as goal
+
+pub returns : goal.returns
+returns c = let a = c.args in let m = module_of a.f.now in ap₂ ◌&&◌ c.primitive.ensures c.uses.ensures ∙ ap (λ (t : ℕ). does (dec_primitive (m.term t)) && does (dec_uses c.record_at-x.result.a (m.term t))) c.return_of-t.ensures ∙ ap (λ (x : Record). does (dec_primitive (m.term (return_of x))) && does (dec_uses x.a (m.term (return_of x)))) c.record_at-x.ensures ∙ result_fits_law a.f.now a.h
