@@ -45,7 +45,7 @@ pub fn typed(
 }
 
 // An instruction of a function, and its record.
-#[derive(Drop)]
+#[derive(Clone, Copy)]
 pub struct Found {
     pub index: usize,
     pub place: usize,
