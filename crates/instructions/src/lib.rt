@@ -2,6 +2,7 @@
 // of the rule by the kind; and the first instruction that breaks its rule. What is asked of the file is what refusals 1 to 6 have
 // established.
 #![tactic(auto)]
+
 pub mod known;
 pub mod memory;
 pub mod scan;
