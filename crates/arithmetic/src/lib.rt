@@ -1,6 +1,7 @@
 // Kinds 18 to 20 in code: operations on integers of w bytes, w being 1, 2 or 4. The largest number of a width
 // comes with it as a mask m, so that wrapping is one `and`. Operations take both in one number v, and take apart what they need.
 #![tactic(auto)]
+
 ghost use Rattle.std.specs.Prelude.{◌≡◌, ℕ, ◌+◌, ◌-◌, ◌%◌, ◌/◌, ◌*◌, ◌^◌, ◌≤◌, ◌<◌, ltb};
 ghost use Rattle.words.specs.Widths.{IsWidth};
 ghost use Rattle.rules.specs.Limits.{no_quotient};
@@ -15,7 +16,7 @@ const WORD: u64 = 4294967296;
 const NEGATIVE: u32 = 2147483648;
 
 // What an operation gives: a value, or the number of a stop.
-#[derive(Drop)]
+#[derive(Clone, Copy)]
 pub enum Number {
     Is(u32),
     Stop(u8),
