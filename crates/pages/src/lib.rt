@@ -1,6 +1,7 @@
 // Kinds 27 and 28 in code: the lowest unused place of a page, the lowest page with room or without an owner, and what a new or a freed
 // object writes. The state is trusted: nothing is tested that an accepted module and a tested state guarantee.
 #![tactic(auto)]
+
 ghost use Rattle.std.specs.Prelude.{◌≡◌, [], ◌∷◌, ◌+◌, ◌*◌, ◌<◌, ◌≤◌, length};
 ghost use Rattle.words.specs.Bytes.{Bytes};
 ghost use Rattle.rules.specs.Limits.{state_bytes, pages, page_bytes, live_regions, mark_bytes};
@@ -22,7 +23,7 @@ use words::{bit_of, wide};
 pub mod bytes;
 
 // What a new object takes: a place of a page that its region has, or the first place of a page that it is granted, or nothing (stop 34).
-#[derive(Drop)]
+#[derive(Clone, Copy)]
 pub enum Chosen {
     Place(u32, u32),
     Page(u32),
@@ -30,7 +31,7 @@ pub enum Chosen {
 }
 
 // What the search for room returns: a page, a place in it, and the last page that it looked at.
-#[derive(Drop)]
+#[derive(Clone, Copy)]
 pub struct Room {
     pub page: u32,
     pub place: u32,

@@ -1,6 +1,7 @@
 // Sets of regions: entry 1 + r is 1 where region r is in the set. Calls and returns find the regions of frames, and the lowest number that
 // is not live, by them. The module's region parameters and local regions are two tables by function number. The state is trusted.
 #![tactic(auto)]
+
 ghost use Rattle.std.specs.Prelude.{◌≡◌, suc, ◌+◌, ◌<◌, ◌≤◌, length, set};
 ghost use Rattle.words.specs.Bytes.{byte_at};
 ghost use Rattle.rules.specs.Limits.{state_bytes, most_frames, most_regions, live_regions};
