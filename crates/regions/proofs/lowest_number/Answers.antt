@@ -1,5 +1,4 @@
 -- `regions::lowest_number` meets its contract: a scan for the first region that is not in the set.
-use mathlib.Core.Bool.{true}
 use Prim.Native.Nat.{suc, ◌+◌}
 use native.Mathlib.Omega.{arith}
 use borrow.Author.Count.{below_none, below_more}
