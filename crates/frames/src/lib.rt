@@ -1,6 +1,7 @@
 // Kind 33 in code: the frame that a call makes. The module's region parameters and local regions are two tables by function number. The
 // state is trusted: nothing is tested that an accepted module and a tested state guarantee.
 #![tactic(auto)]
+
 ghost use Rattle.std.specs.Prelude.{◌≡◌, [], ◌∷◌, ℕ, suc, ◌+◌, ◌<◌, ◌≤◌, length, set};
 ghost use Rattle.words.specs.Bytes.{byte_at};
 ghost use Rattle.rules.specs.Limits.{state_bytes, most_frames, most_registers, most_regions, most_entries, live_regions};

@@ -1,5 +1,6 @@
 // Kind 34 in code: what a return closes. The state is trusted: nothing is tested that an accepted module and a tested state guarantee.
 #![tactic(auto)]
+
 ghost use Rattle.std.specs.Prelude.{◌≡◌, ◌+◌, ◌<◌, ◌≤◌, length};
 ghost use Rattle.words.specs.Bytes.{byte_at};
 ghost use Rattle.rules.specs.Limits.{state_bytes, pages, most_frames, most_regions};
