@@ -1,5 +1,6 @@
 // The verdict on a module file, for every byte slice: refusals 1 to 4, then 5 to 8 in the order of their numbers.
 #![tactic(auto)]
+
 ghost use Rattle.std.specs.Prelude.{◌≡◌, ℕ, ◌<◌, true};
 ghost use Rattle.rules.specs.Decode.{module_of, start_of};
 ghost use Rattle.words.specs.First.{first};
@@ -48,7 +49,7 @@ fn last_rules(
 }
 
 // What refusal 7 says of the functions; and, where they pass, the first whose last instruction lets the code run on, or their number.
-#[derive(Drop)]
+#[derive(Clone, Copy)]
 struct Scanned {
     outcome: Outcome,
     ends: usize,
