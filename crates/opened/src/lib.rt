@@ -1,6 +1,7 @@
 // An opened module: a view over the lent file with its table starts, as a struct. Its reader stands over a covered function on the slice
 // and the tables; `head_of` serves callers that hold no such struct, as opening does.
 #![tactic(auto)]
+
 ghost use Rattle.std.specs.Prelude.{◌≡◌};
 ghost use Rattle.rules.specs.Walk.{whole};
 ghost use Rattle.rules.specs.Records.{head_of};
@@ -10,7 +11,7 @@ use rules::Record;
 use walk::tables::Tables;
 
 // The file lent, and what one pass over its records gives: how many terms, names and functions, and where each function starts.
-#[derive(Drop)]
+#[derive(Clone, Copy)]
 pub struct Module<'a> {
     pub file: &'a [u8],
     pub tables: Tables,
