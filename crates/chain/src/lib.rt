@@ -1,6 +1,7 @@
 // The frames of a state that nobody has tested, for any bytes: the call that a frame stands at, and that the frame above is its callee
 // with the call's regions through the caller's map. Each answer tells a fact of rules' StateTest.
 #![tactic(auto)]
+
 ghost use Rattle.std.specs.Prelude.{◌≡◌, ℕ, ◌+◌, ◌<◌, ◌^◌};
 ghost use Rattle.rules.specs.File.{record_of, byte_of_d, instructions_of};
 ghost use Rattle.rules.specs.Decode.{start_of, instruction_at};
