@@ -1,6 +1,7 @@
 // The clauses of the state test that need no types, on bytes that nobody has tested: length, header, frames (crate stack), owners and
 // marks, spare bytes. No function asks anything of the state.
 #![tactic(auto)]
+
 ghost use Rattle.stack.specs.Tells.{Tells};
 ghost use Rattle.stack.specs.Facts.{Known};
 ghost use Rattle.shape.specs.Shape.{Shape};
