@@ -1,6 +1,7 @@
 // The lines that the program prints, written one behind the other into lent bytes. A line has at most 93 bytes: a word of
 // eight, four numbers of twenty digits, each behind a space, and the end.
 #![tactic(auto)]
+
 ghost use Rattle.std.specs.Prelude.{◌≡◌, [], ◌∷◌, ◌+◌, ◌*◌, ◌<◌, ◌≤◌, length};
 ghost use Rattle.lines.specs.Lines.{digit as digitOf, space, decimal, line_of, verdict_line, refused_line, accepted_word, ended_word, stopped_word, running_word};
 ghost use Rattle.lines.specs.Writing.{Puts, pair_of, most_digits, most_line};
