@@ -1,6 +1,7 @@
 // Objects of a state that nobody has tested: which frame's type a live region has, the extent of its objects, and the object around an
 // address. The file's tables are handed over; nothing is asked of the state.
 #![tactic(auto)]
+
 ghost use Rattle.std.specs.Prelude.{◌≡◌, suc, ◌<◌, ◌≤◌};
 ghost use Rattle.rules.specs.Limits.{size_limit, page_bytes};
 ghost use Rattle.rules.specs.Flat.{flat, size};
@@ -18,14 +19,14 @@ use state::Machine;
 use terms::{Extent, UNTYPED};
 
 // Where a region's type stands: 1 + the frame (0: the region is not live), and what record 8 says there, a term or UNTYPED.
-#[derive(Drop)]
+#[derive(Clone, Copy)]
 pub struct Home {
     pub frame: u32,
     pub entry: usize,
 }
 
 // A part of the state: where it starts, and its size, 0 of an empty part.
-#[derive(Drop)]
+#[derive(Clone, Copy)]
 pub struct Area {
     pub offset: usize,
     pub size: usize,

@@ -1,0 +1,12 @@
+-- `objects::entry_of` meets its contract: the entry of record 8. Assumes nothing.
+use native.Mathlib.Omega.{arith}
+use mathlib.Core.Path.{◌∙◌}
+use Rattle.stack.specs.Facts.{start_few}
+use Rattle.objects.specs.Homes.{entry_is}
+use Rattle.objects.proofs.entry_of.Goals as goal
+
+pub overflow_add-at : goal.overflow_add-at
+overflow_add-at c = omega (arith, c.start_of-at.ensures, start_few c.args.f.now c.wide-g.result c.requires.short)
+
+pub returns : goal.returns
+returns c = entry_is _ _ _ _ (c.wide-g.ensures.0 ∙ c.function.ensures) c.start_of-at.ensures c.record_at-x.ensures c.entry_of.ensures.0
