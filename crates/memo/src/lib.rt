@@ -1,5 +1,6 @@
 // Where runs stand, remembered: pointers of one term lead into one region, so that only the distance into its objects tells them apart.
 #![tactic(auto)]
+
 ghost use Rattle.std.specs.Prelude.{◌<◌, ◌≤◌, length};
 ghost use Rattle.rules.specs.Limits.{size_limit};
 ghost use Rattle.positions.specs.Table.{Table};
