@@ -1,6 +1,7 @@
 // The marks past the last place of a page, in a state that nobody has tested: the state test's clause on them. The file's tables are
 // handed over; nothing is asked of the state.
 #![tactic(auto)]
+
 ghost use Rattle.std.specs.Prelude.{ℕ, suc, ◌<◌, ◌≤◌};
 ghost use Rattle.rules.specs.Limits.{pages, page_bytes, size_limit};
 ghost use Rattle.positions.specs.Table.{Table};
