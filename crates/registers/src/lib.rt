@@ -1,6 +1,7 @@
 // The state test's clause on registers, on bytes that nobody has tested: each register of each frame is a value of its type. The file's
 // tables are handed over; nothing is asked of the state.
 #![tactic(auto)]
+
 ghost use Rattle.std.specs.Prelude.{◌≡◌, ℕ, ◌<◌, ◌^◌};
 ghost use Rattle.rules.specs.Decode.{module_of};
 ghost use Rattle.rules.specs.State.{frame_map};
