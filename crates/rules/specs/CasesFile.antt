@@ -18,7 +18,7 @@ use Rattle.rules.specs.Quick.{along, quick_records, quick_of}
 use Rattle.rules.specs.Records.{four, seven, four_loose, seven_loose, term_fits, name_fits, head_ranges, function_fits, list_fits, region_bytes_fit, instruction_fits, arguments_fit, fits_in, fits, record_test_with}
 use Rattle.rules.specs.Stages.{verdict}
 use Rattle.rules.specs.Types.{dec_region, sub, dec_tree, dec_uses, dec_primitive}
-use Rattle.rules.specs.Verdict.{term_test, struct_test, function_test, instruction_test, instruction_stage, last_test, module_stages, instructions, module_rules, verdict_of}
+use Rattle.rules.specs.Verdict.{term_test, struct_test, function_test, instruction_test, instruction_stage, last_test, module_stages, instructions, module_rules}
 use Rattle.rules.specs.Walk.{to_code, to_registers, opened, done, to_function, to_name, step, next, next_scan, scan, whole}
 use Rattle.rules.specs.WellTyped.{dec_counts, dec_term, dec_struct, scope_of, dec_function, dec_entry, dec_last}
 use Rattle.rules.specs.CaseStates.{module_with, to, named}
@@ -147,10 +147,3 @@ table =
 pub agrees : Agree table
 unfolding number little list_from first_from first sum_below dec_both dec_either dec_imp dec_all dec_the map_dec dec_list dec_each as_int as_ptr as_arr as_raw dec_an_address dec_reg with_int with_ptr with_raw an_int a_ptr a_raw dec_untyped dec_constant dec_copy dec_operate dec_zero dec_signed dec_address dec_check dec_field dec_index dec_through dec_load dec_store dec_whole dec_new dec_free dec_input dec_output dec_jump dec_branch dec_call dec_return dec_new_bytes dec_load_byte dec_store_byte dec_check_bytes dec_typed region_bytes tree_of trees_of fields_of places code_places call_of arithmetic_of memory_of control_of by_group instruction_of code_of function_of region_type_of module_of start_of instruction_at check_sum block_test records record_start record_of group_of dec_placed dec_prims beside copies_of copies sub_layout flat_with fields_from fields_with layouts flat struct_flat dec_run dec_same operand_table classes_of operand_fits along quick_records quick_of four seven four_loose seven_loose term_fits name_fits head_ranges function_fits list_fits region_bytes_fit instruction_fits arguments_fit fits_in fits record_test_with verdict dec_region sub dec_tree dec_uses dec_primitive term_test struct_test function_test instruction_test instruction_stage last_test module_stages instructions module_rules to_code to_registers opened done to_function to_name step next next_scan scan whole dec_counts dec_term dec_struct scope_of dec_function dec_entry dec_last ℕ_discrete dec_lt dec_le records_bytes file_of file worked_records worked largest_term byte_more
 agrees = agree table refl
-
--- of these, C3's two
-pub largest_accepted : verdict_of largest_term ≡ Accepted 4 0 1 1
-largest_accepted = agrees.1.1.0
-
-pub more_refused : verdict_of byte_more ≡ Refused 5 4
-more_refused = agrees.1.1.1.0
