@@ -1,6 +1,7 @@
 // Kind 22 in code: a number becomes a pointer where a run of the pointer's target stands at that address. The types are the file's, each
 // closed by the top frame's map. And kind 39: it becomes an untyped pointer where its bytes lie in one page of its region.
 #![tactic(auto)]
+
 ghost use Rattle.std.specs.Prelude.{◌≡◌, ℕ, ◌+◌, ◌<◌, length, get_or};
 ghost use Rattle.rules.specs.Limits.{most_frames, most_regions, state_bytes};
 ghost use Rattle.rules.specs.Module.{Module};
