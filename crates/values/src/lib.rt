@@ -2,6 +2,7 @@
 // type (module pages), as each register is (crate registers); and the whole test. The file's tables are handed over; nothing is asked
 // of the state.
 #![tactic(auto)]
+
 ghost use Rattle.std.specs.Prelude.{◌≡◌};
 ghost use Rattle.words.specs.Decide.{does};
 ghost use Rattle.rules.specs.Decode.{module_of};

@@ -44,7 +44,7 @@ fn word(s: &[u8], x: u32) -> u32
 
 // Where the pointers of a term lead: into live region `region`, whose type is `entry` of record 8 under `map` (frame 0: it is not live), to
 // a run of term `run`, or, raw ones, to `run` untyped bytes.
-#[derive(Drop)]
+#[derive(Clone, Copy)]
 pub struct Target {
     pub region: u8,
     pub frame: u32,
@@ -115,7 +115,7 @@ pub fn target_of(
 }
 
 // Where the pointers that were looked at last lead, if there were any: those of term t under `to`.
-#[derive(Drop)]
+#[derive(Clone, Copy)]
 pub struct Aim {
     pub known: bool,
     pub t: usize,

@@ -24,7 +24,7 @@ use state::Machine;
 use terms::{UNTYPED, form};
 
 // What the objects of a page are: the place of their term, the regions put in, their size and how many primitives each has.
-#[derive(Drop)]
+#[derive(Clone, Copy)]
 pub struct Objects {
     pub place: usize,
     pub to: [u8; 8],
@@ -162,7 +162,7 @@ fn all_places(
 }
 
 // The answer on a position, and the aim of its pointers, or of those before.
-#[derive(Drop)]
+#[derive(Clone, Copy)]
 pub struct Looked {
     pub ok: bool,
     pub aim: Aim,

@@ -1,0 +1,7 @@
+-- `values::memory::bytes` meets its contract: its four bytes. Assumes nothing.
+use mathlib.Core.Path.{◌∙◌}
+use Rattle.values.specs.Memory.{word_is}
+use Rattle.values.proofs.memory.bytes.Goals as goal
+
+pub returns : goal.returns
+returns c = word_is _ _ (c.wide-a.ensures.0 ∙ c.memory_byte.ensures) (c.wide-b.ensures.0 ∙ c.memory_byte-2.ensures) (c.wide-c.ensures.0 ∙ c.memory_byte-3.ensures) (c.wide-d.ensures.0 ∙ c.memory_byte-4.ensures)
