@@ -1,5 +1,6 @@
 // Opening: the first state of an accepted module, function 0 with its arguments.
 #![tactic(auto)]
+
 ghost use Rattle.rules.specs.Verdict.{verdict_of, IsAccepted};
 ghost use Rattle.rules.specs.Host.{open_of, open_at};
 ghost use Rattle.opening.specs.Opening.{OpenedBy};
@@ -10,7 +11,7 @@ use state::Machine;
 use state::range::all_pages;
 
 // Opening's answer: refused with document 01's number and place, or opened.
-#[derive(Drop)]
+#[derive(Clone, Copy)]
 pub enum Opened {
     Refused { number: usize, place: usize },
     Opened,

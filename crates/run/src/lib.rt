@@ -1,5 +1,6 @@
 // A run with a budget: steps over prepared words until the budget is used, the module ends or a step stops; and what came of it.
 #![tactic(auto)]
+
 ghost use Rattle.std.specs.Prelude.{◌≡◌, length};
 ghost use Rattle.rules.specs.Limits.{state_bytes};
 ghost use Rattle.rules.specs.State.{view};
@@ -12,7 +13,7 @@ use state::fields::status;
 use state::total::result;
 
 // What came of a run: the budget is used, the module ended with a value, or it stopped for a reason.
-#[derive(Drop)]
+#[derive(Clone, Copy)]
 pub enum Outcome {
     Running,
     Ended(u32),
