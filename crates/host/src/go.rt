@@ -24,7 +24,7 @@ use state::fields::status;
 use state::range::all_pages;
 
 // Going on's answer: refused with document 01's number and place; ended with a value, stopped for a reason, or running, after so many steps.
-#[derive(Drop)]
+#[derive(Clone, Copy)]
 pub enum Went {
     Refused { number: usize, place: usize },
     Ended { value: u32, steps: u64 },

@@ -9,7 +9,7 @@ use rules::{PageRange, Verdict};
 use state::range::all_pages;
 
 // A part of the lent state: where it starts, and its size, 0 of an empty part.
-#[derive(Drop)]
+#[derive(Clone, Copy)]
 pub struct Part {
     pub offset: usize,
     pub size: usize,

@@ -10,7 +10,7 @@ ghost use Rattle.host.specs.Ready.{Ready};
 use rules::PageRange;
 use rules::limits::{CALLEES, MOST_TERMS};
 
-#[derive(Drop)]
+#[derive(Clone, Copy)]
 pub struct Tables {
     pub terms: usize,
     pub structs: usize,

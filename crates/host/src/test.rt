@@ -11,7 +11,7 @@ use state::Machine;
 use state::range::all_pages;
 
 // The state test's answer: refused with document 01's number and place, or passed.
-#[derive(Drop)]
+#[derive(Clone, Copy)]
 pub enum Tested {
     Refused { number: usize, place: usize },
     Passed,

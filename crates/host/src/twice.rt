@@ -6,7 +6,7 @@ ghost use Rattle.host.specs.Calls.{WentTwice};
 use crate::go::{Went, go};
 
 // The answers of both calls.
-#[derive(Drop)]
+#[derive(Clone, Copy)]
 pub struct Both {
     pub first: Went,
     pub second: Went,
