@@ -12,7 +12,7 @@ use std::process::{Command, Output};
 
 /// The reference's program, and the proved one where `rt` has built it.
 fn programs() -> Vec<PathBuf> {
-    let proved = repository().join("target/bin/matcher");
+    let proved = repository().join("crates/matcher/out/matcher");
     let mut programs = vec![PathBuf::from(env!("CARGO_BIN_EXE_run"))];
     programs.extend(proved.exists().then_some(proved));
     programs

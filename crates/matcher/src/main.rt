@@ -1,69 +1,90 @@
 // The program of document 01: reads the files `module` and `form` of the folder that it is run in and prints the lines that `report` makes
 // of their bytes. A file that cannot be read gets a message on standard error and no line.
 #![tactic(auto)]
-ghost use Rattle.std.specs.Prelude.{◌≡◌, true, ◌<◌, length};
-ghost use Rattle.io.specs.Counts.{IsPrefixLen};
 
-use libc::STDOUT_FILENO;
+ghost use Rattle.std.specs.Prelude.{◌≡◌, ◌<◌, ◌≤◌, true, length, take, ℕ, IfOk, OnErr, IsSome};
+ghost use Rattle.std.specs.Io.{ReadsAtMost};
+ghost use Rattle.std.specs.Io.KnownBytes.{Consumes, IsAtEnd};
+
+use anyhow::{Context, Result, bail};
 use report::REPORT_BYTES;
 use rules::limits::{BLOCK_BYTES, MOST_BLOCKS};
 use state::Machine;
+use std::io::{Read, Write};
+use std::rt::Files;
+use std::{fs, io};
 
 // One byte more than a module or a form may have: of a longer one no more is needed (`enough` in report's specs/Enough.antt).
 const FILE_BUFFER: usize = MOST_BLOCKS * BLOCK_BYTES + 1;
 
 const FORM_BUFFER: usize = Machine::MOST_FORM + 1;
 
-// How many bytes were read, and whether that is all: the whole file, or a full buffer. Of a full buffer it is stated. Of a shorter reading
-// it is free, and a body that always says true would meet the contract: C's `read` promises only a count within the buffer, and no
-// contract can say where a file ends.
+// How many bytes were read, and whether that is all: the whole file, or a full buffer. Of a full buffer it is stated. Of a shorter reading it
+// is stated of a reader whose bytes a contract can name (`R.remaining`), as one over memory; where a file ends, no contract can say.
 #[derive(Drop)]
 struct Got {
     count: usize,
     whole: bool,
 }
 
-// Of an open file, which it closes. Reading on at its end gives nothing; where the reading before failed it fails.
-fn read_open(fd: i32, name: &[u8], buf: &mut [u8]) -> Got
-    ensures { IsPrefixLen result.count buf.new × (0 < result.count → result.count ≡ length buf.new → result.whole ≡ true) }
+// Reads until the buffer is full or the file ends, and says how many bytes it put at the buffer's start: the file's next bytes. The only
+// errors are those of the file's own readings.
+fn fill<R: Read>(file: &mut R, buf: &mut [u8]) -> io::Result<usize>
+    ensures within { ReadsAtMost result buf.new }
+    ensures bytes { IfOk result (λ count. Consumes (R.remaining file.old) (R.remaining file.new) (take count buf.new)) }
+    ensures end { IfOk result (λ count. count < length buf.new → IsAtEnd (R.remaining file.new)) }
+    ensures err { OnErr result ((n : ℕ) × Consumes (R.remaining file.old) (R.remaining file.new) (take n buf.new)) }
 {
-    let count = io::read_full(fd, buf);
-    let mut next = [0u8; 1];
-    let whole = count == buf.len() || libc::read(fd, &mut next) == 0;
-    if !whole {
-        os::fail(name);
+    let mut count = 0;
+    while count < buf.len() {
+        let more = file.read(&mut buf[count..])?;
+        if more == 0 {
+            break;
+        }
+        count += more;
     }
-    libc::close(fd);
-    Got { count, whole }
+    Ok(count)
+}
+
+// Of an open file. Reading on at its end gives nothing. After an error too, what the file has lost stands at the buffer's start.
+fn read_open<R: Read>(file: &mut R, buf: &mut [u8]) -> io::Result<Got>
+    ensures within { IfOk result (λ got. got.count ≤ length buf.new) }
+    ensures prefix { IfOk result (λ got. got.count ≡ length (take got.count buf.new)) }
+    ensures all { IfOk result (λ got. 0 < got.count → got.count ≡ length buf.new → got.whole ≡ true) }
+    ensures known { IfOk result (λ got. IsSome (R.remaining file.old) → got.whole ≡ true) }
+    ensures bytes { IfOk result (λ got. got.whole ≡ true → Consumes (R.remaining file.old) (R.remaining file.new) (take got.count buf.new)) }
+    ensures end { IfOk result (λ got. got.whole ≡ true → got.count < length buf.new → IsAtEnd (R.remaining file.new)) }
+    ensures err { OnErr result ((n : ℕ) × Consumes (R.remaining file.old) (R.remaining file.new) (take n buf.new)) }
+{
+    let count = fill(file, buf)?;
+    let mut next = [0u8; 1];
+    let whole = count == buf.len() || file.read(&mut next)? == 0;
+    Ok(Got { count, whole })
 }
 
 // The first bytes of a file, as many as the buffer holds.
-fn read(name: &[u8], buf: &mut [u8]) -> Got
-    ensures { IsPrefixLen result.count buf.new × (0 < result.count → result.count ≡ length buf.new → result.whole ≡ true) }
+fn read(files: &impl Files, name: &str, buf: &mut [u8]) -> io::Result<Got>
+    ensures within { IfOk result (λ got. got.count ≤ length buf.new) }
+    ensures prefix { IfOk result (λ got. got.count ≡ length (take got.count buf.new)) }
+    ensures all { IfOk result (λ got. 0 < got.count → got.count ≡ length buf.new → got.whole ≡ true) }
 {
-    let fd = os::open_read(name);
-    if fd < 0 {
-        os::fail(name);
-        return Got {
-            count: 0,
-            whole: false,
-        };
-    }
-    read_open(fd, name, buf)
+    let mut file = fs::open(files, name)?;
+    read_open(&mut file, buf)
 }
 
-fn main() {
+fn main(rt: HostRuntime) -> Result<()> {
     let mut file = [0u8; FILE_BUFFER];
     let mut form = [0u8; FORM_BUFFER];
     let mut text = [0u8; REPORT_BYTES];
-    let module = read(b"module", &mut file);
-    let input = read(b"form", &mut form);
+    let module = read(&rt, "module", &mut file).context("module")?;
+    let input = read(&rt, "form", &mut form).context("form")?;
     let n = module.count;
     let k = input.count;
-    if module.whole & input.whole {
-        let end = report::report(&file[..n], &form[..k], &mut text);
-        if !io::write_all(STDOUT_FILENO, &text[..end]) {
-            os::fail(b"standard output");
-        }
+    if !(module.whole & input.whole) {
+        bail!("a file that goes on while it is read cannot be read");
     }
+    let end = report::report(&file[..n], &form[..k], &mut text);
+    rt.stdout()
+        .write_all(&text[..end])
+        .context("standard output")
 }

@@ -1,5 +1,6 @@
 // The C interface: include/rcm.h. Each function's contract gives the numbers of its answer by a definition of rules' specs/Host.antt.
 #![tactic(auto)]
+
 ghost use Rattle.std.specs.Prelude.{◌≡◌, ◌+◌, ◌*◌, ◌≤◌};
 ghost use Rattle.rules.specs.Limits.{most_functions, most_instructions};
 ghost use Rattle.rules.specs.Verdict.{verdict_of};
@@ -20,7 +21,8 @@ use state::places::page_place;
 
 // Functions and instructions in one number.
 fn packed(functions: usize, instructions: usize) -> u64
-    requires { (functions ≤ most_functions) × (instructions ≤ most_functions * most_instructions) }
+    requires functions { functions ≤ most_functions }
+    requires instructions { instructions ≤ most_functions * most_instructions }
     ensures { result ≡ functions * 65536 + instructions }
 {
     (functions as u64) * 65536 + (instructions as u64)
@@ -106,7 +108,8 @@ pub extern "C" fn rcm_check(file: &[u8], answer: &mut [u64; 4])
 // Opening: the first state of a module.
 #[unsafe(no_mangle)]
 pub extern "C" fn rcm_open(file: &[u8], arguments: &[u8], state: &mut [u8], answer: &mut [u64; 4])
-    ensures { let w = open_of file.now arguments.now state.old in (answer.new ≡ open_numbers w) × (state.new ≡ left_opened w state.old) }
+    ensures answer { answer.new ≡ open_numbers (open_of file.now arguments.now state.old) }
+    ensures state { state.new ≡ left_opened (open_of file.now arguments.now state.old) state.old }
 {
     let r = opening::open(file, arguments, state);
     *answer = open_numbers(r);
@@ -122,7 +125,9 @@ pub extern "C" fn rcm_go(
     budget: u64,
     answer: &mut [u64; 4],
 )
-    ensures { let w = go_of file.now form.now state.old output.old budget in (answer.new ≡ go_numbers w) × (state.new ≡ left_state w state.old) × (output.new ≡ left_output w output.old) }
+    ensures answer { answer.new ≡ go_numbers (go_of file.now form.now state.old output.old budget) }
+    ensures state { state.new ≡ left_state (go_of file.now form.now state.old output.old budget) state.old }
+    ensures output { output.new ≡ left_output (go_of file.now form.now state.old output.old budget) output.old }
 {
     let r = host::go::go(file, form, state, output, budget);
     *answer = go_numbers(r);

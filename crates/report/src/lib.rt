@@ -1,6 +1,7 @@
 // Document 01's program as a function: from the bytes of the files `module` and `form` the text that it prints. Reading the files and
 // writing the text is left to the program.
 #![tactic(auto)]
+
 ghost use Rattle.std.specs.Prelude.{[], ◌+◌, ◌≤◌, length, replicate};
 ghost use Rattle.rules.specs.Limits.{state_bytes};
 ghost use Rattle.rules.specs.Host.{open_of};

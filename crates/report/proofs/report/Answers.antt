@@ -1,0 +1,18 @@
+-- `report` meets its contract: the verdict's line, and of an accepted module the second behind it.
+use native.Mathlib.Omega.{arith}
+use Rattle.lines.specs.Writing.{puts_then}
+use Rattle.report.specs.Report.{printed_accepted, printed_refused, puts_inside}
+use Rattle.report.proofs.report.Goals as goal
+
+pub returns-in-Accepted : goal.returns-in-Accepted
+returns-in-Accepted c =
+    let a = c.args in
+    let v = c.verdict_line-n.ensures in
+    let w = c.second_line.ensures in
+    rw (printed_accepted a.file.now a.form.now c.verdict-v.ensures c.in-Accepted.is) (puts_inside (puts_then v.0 w.0) (omega arith))
+
+pub returns-in-Refused : goal.returns-in-Refused
+returns-in-Refused c =
+    let a = c.args in
+    let v = c.verdict_line-n.ensures in
+    rw (printed_refused a.file.now a.form.now c.verdict-v.ensures c.in-Refused.is) (puts_inside v.0 (omega arith))
