@@ -7,7 +7,7 @@ use Rattle.std.proofs.Math.Nat.{div-add-mod, suc_inj}
 use Rattle.std.proofs.Math.Decide.{dec_lt}
 use Rattle.words.specs.ByteLaws.{pow_pos}
 use Rattle.rules.specs.Limits.{pages, page_bytes}
-use Rattle.rules.specs.Types.{live, region, Tree, int, ptr, arr, struct, raw_ptr, bytes, width, sub, Primitive}
+use Rattle.rules.specs.Types.{live, Tree, int, ptr, arr, struct, raw_ptr, bytes, width, sub, Primitive}
 use Rattle.rules.specs.Module.{Module}
 use Rattle.rules.specs.Flat.{at, Has, Layout, flat, size, count, distance, Run, RunAt, Same}
 use Rattle.rules.specs.Heap.{close, HeapTyping, Stands, InUntyped, Value}

@@ -9,12 +9,11 @@ use Rattle.std.proofs.Math.Nat.{mul_comm}
 use borrow.Author.Tests.{eq-eqb, ne_eqb, eqb-true, lt-ltb, le-ltb, le-leb, lt-leb, leb-true}
 use Rattle.words.specs.Bytes.{Bytes}
 use Rattle.words.specs.Choose.{false_by, true_not_false, lt_or_le, bool_same, both, both_of, and_no, does_lt, does_le}
-use Rattle.words.specs.First.{first}
 use Rattle.words.specs.Decide.{does, does_true, dec_both, true_does}
 use Rattle.rules.specs.Types.{RegionKind, variable, live, Tree, int, integer, form, sub, dec_tree}
 use Rattle.rules.specs.File.{untyped_mark}
 use Rattle.rules.specs.Module.{Module}
-use Rattle.rules.specs.Flat.{Placed, at, off, Layout, count, one_byte, moved, sub_layout, flat, distance, dec_placed, dec_run, position_at, size}
+use Rattle.rules.specs.Flat.{Placed, Layout, count, one_byte, moved, sub_layout, flat, distance, dec_placed, dec_run, position_at, size}
 use Rattle.rules.specs.Decode.{module_of}
 use Rattle.layout.specs.Prims.{nth, count_sub}
 use Rattle.rules.specs.Limits.{pages, page_bytes, memory_bytes}

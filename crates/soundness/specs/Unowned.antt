@@ -13,7 +13,6 @@ use Rattle.words.specs.Bytes.{Bytes, AllBytes, byte_at}
 use Rattle.words.specs.Choose.{came_no}
 use Rattle.rules.specs.Limits.{page_bytes, memory_bytes}
 use Rattle.rules.specs.Module.{Module}
-use Rattle.rules.specs.Flat.{size}
 use Rattle.rules.specs.Decode.{module_of}
 use Rattle.rules.specs.Verdict.{verdict_of, IsAccepted}
 use Rattle.rules.specs.State.{View, view, memory_place}

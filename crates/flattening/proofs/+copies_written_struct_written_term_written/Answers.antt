@@ -18,7 +18,6 @@ use Rattle.positions.specs.Positions.{Agree, before, field, struct_fields, keeps
 use Rattle.positions.specs.declared.Primitive.{Primitive}
 use Rattle.flattening.specs.Written.{PastOf, Past}
 use mathlib.Core.List.{List}
-use borrow.Fn.PlainCycle.{is}
 use Rattle.words.specs.Bytes.{Bytes}
 use Rattle.terms.specs.HeadLaws.{fair_at}
 use Rattle.terms.specs.declared.Head.TheVariants.{Arr}
@@ -27,7 +26,6 @@ use Rattle.positions.specs.declared.Core.{Core}
 use Rattle.positions.specs.declared.Core.TheVariants.{Term}
 use lib.ListN.{replicate}
 use Rattle.flattening.proofs.+copies_written_struct_written_term_written.Goals as goal
-use Rattle.flattening.proofs.struct_written.Reads as struct_written
 
 -- What is known of a copy once its extent is read, in plain names.
 module _ {t : ℕ} (c : copies_written-After-extent_in-e t) where
@@ -101,7 +99,6 @@ copies_written-overflow_mul-h-in-loop-h t c = omega (arith, copy-off (goal.at.co
 
 pub copies_written-shifted-requires : goal.copies_written-shifted-requires
 copies_written-shifted-requires t c =
-    
     let e = copy-count (goal.at.copies_written-shifted-requires t c).After-extent_in-e in
     let v = c.loop-h.invariant in (
       omega (arith, copy-after (goal.at.copies_written-shifted-requires t c).In-loop-h),
@@ -224,7 +221,6 @@ pub struct_written-loop-j-preserved : goal.struct_written-loop-j-preserved
 struct_written-loop-j-preserved t c =
     let a = c.args in
     let l = c.loop-j in
-    
     let same = fld-same (goal.at.struct_written-loop-j-preserved t c).After-place_of-p in
     let s = size_next a.f.now a.n a.number c.requires.4.terms a.off a.at c.requires.1 c.requires.2 l.j l.size l.count (fld-less (goal.at.struct_written-loop-j-preserved t c).After-place_of-p) l.invariant.1 l.invariant.2 in
     let m = count_next a.f.now a.n a.number c.requires.4.terms a.off a.at c.requires.1 c.requires.2 l.j l.size l.count (fld-less (goal.at.struct_written-loop-j-preserved t c).After-place_of-p) l.invariant.1 l.invariant.2 in (
@@ -386,7 +382,6 @@ pub term_written-struct_written-requires : goal.term_written-struct_written-requ
 term_written-struct_written-requires t c =
     let a = c.args in
     let q = c.requires in
-    
     let s = struct_size_law a.f.now a.k a.p a.off 0 a.to _ 4 _ (str-is (goal.at.term_written-struct_written-requires t c).In-Fields) in
     let m = struct_count a.f.now a.k a.p a.off 0 a.to _ 4 _ (str-is (goal.at.term_written-struct_written-requires t c).In-Fields) in
     let less = (str-core (goal.at.term_written-struct_written-requires t c).In-Fields).known a.k (str-fits (goal.at.term_written-struct_written-requires t c).In-Fields) in
@@ -421,8 +416,7 @@ term_written-copies_written-requires t c =
 
 pub term_written-returns-in-Fields : goal.term_written-returns-in-Fields
 term_written-returns-in-Fields t c =
-    let a = c.args in
-     (
+    let a = c.args in (
       written_struct a.k a.p _ 4 _ (str-is (goal.at.term_written-returns-in-Fields t c).In-Fields) c.arguments-inside.result c.requires.3 c.arguments-inside.ensures c.struct_written.ensures.0,
       c.struct_written.ensures.1,
       (let s = struct_size_law a.f.now a.k a.p a.off 0 a.to _ 4 _ (str-is (goal.at.term_written-returns-in-Fields t c).In-Fields) in
@@ -431,7 +425,7 @@ term_written-returns-in-Fields t c =
     )
 
 pub term_written-returns-in-Arr : goal.term_written-returns-in-Arr
-term_written-returns-in-Arr t c =  (
+term_written-returns-in-Arr t c = (
   written_same (sym (trm-same (goal.at.term_written-returns-in-Arr t c).After-head_of ∙ arr_is (goal.at.term_written-returns-in-Arr t c).In-Arr)) c.copies_written.ensures.0,
   c.copies_written.ensures.1,
   (let e = trm-same (goal.at.term_written-returns-in-Arr t c).After-head_of ∙ arr_is (goal.at.term_written-returns-in-Arr t c).In-Arr in
@@ -450,7 +444,6 @@ term_written-put-requires-in-Ptr t c = (omega (arith, trm-room (goal.at.term_wri
 pub term_written-returns-in-Int : goal.term_written-returns-in-Int
 term_written-returns-in-Int t c =
     let a = c.args in
-    
     let none : Bytes = replicate 8 0 in
     let e = sym c.head_of.ensures.0 ∙ c.in-Int.is in
     let w = put_single c.requires.5 a.at (trm-p (goal.at.term_written-returns-in-Int t c).After-head_of) none a.off (omega (arith, trm-room (goal.at.term_written-returns-in-Int t c).After-head_of, trm-some (goal.at.term_written-returns-in-Int t c).After-head_of)) (omega (arith, trm-fits (goal.at.term_written-returns-in-Int t c).After-head_of)) a.f.now a.k _ (omega (arith, trm-low (goal.at.term_written-returns-in-Int t c).After-head_of, c.requires.4.terms.few))
@@ -460,7 +453,6 @@ term_written-returns-in-Int t c =
 pub term_written-returns-in-Ptr : goal.term_written-returns-in-Ptr
 term_written-returns-in-Ptr t c =
     let a = c.args in
-    
     let w = put_single c.requires.5 a.at (trm-p (goal.at.term_written-returns-in-Ptr t c).After-head_of) a.to a.off (omega (arith, trm-room (goal.at.term_written-returns-in-Ptr t c).After-head_of, trm-some (goal.at.term_written-returns-in-Ptr t c).After-head_of)) (omega (arith, trm-fits (goal.at.term_written-returns-in-Ptr t c).After-head_of)) a.f.now a.k _ (omega (arith, trm-low (goal.at.term_written-returns-in-Ptr t c).After-head_of, c.requires.4.terms.few))
     (single_ptr a.f.now a.k (trm-p (goal.at.term_written-returns-in-Ptr t c).After-head_of) a.off 0 a.to _ _ (sym c.head_of.ensures.0 ∙ c.in-Ptr.is)) c.put-in-Ptr.ensures.0 c.put-in-Ptr.ensures.1 in
     (written_same (sym (trm-same (goal.at.term_written-returns-in-Ptr t c).After-head_of)) w.0, w.1, past_later a.at a.off (past_kept a.at a.off c.requires.7 w.1 (omega arith) (put_memo c.requires.5 a.at (trm-p (goal.at.term_written-returns-in-Ptr t c).After-head_of) a.to a.off (let z = trm-some (goal.at.term_written-returns-in-Ptr t c).After-head_of in omega (arith, trm-room (goal.at.term_written-returns-in-Ptr t c).After-head_of)) (omega (arith, trm-fits (goal.at.term_written-returns-in-Ptr t c).After-head_of)) (let z = trm-some (goal.at.term_written-returns-in-Ptr t c).After-head_of in omega (arith, trm-room (goal.at.term_written-returns-in-Ptr t c).After-head_of)) c.put-in-Ptr.ensures.0 c.put-in-Ptr.ensures.1)) (omega arith) (omega arith))
@@ -474,7 +466,6 @@ term_written-put-requires-in-Untyped t c = (omega (arith, trm-room (goal.at.term
 pub term_written-returns-in-Untyped : goal.term_written-returns-in-Untyped
 term_written-returns-in-Untyped t c =
     let a = c.args in
-    
     let w = put_single c.requires.5 a.at (trm-p (goal.at.term_written-returns-in-Untyped t c).After-head_of) a.to a.off (omega (arith, trm-room (goal.at.term_written-returns-in-Untyped t c).After-head_of, trm-some (goal.at.term_written-returns-in-Untyped t c).After-head_of)) (omega (arith, trm-fits (goal.at.term_written-returns-in-Untyped t c).After-head_of)) a.f.now a.k _ (omega (arith, trm-low (goal.at.term_written-returns-in-Untyped t c).After-head_of, c.requires.4.terms.few))
     (single_untyped a.f.now a.k (trm-p (goal.at.term_written-returns-in-Untyped t c).After-head_of) a.off 0 a.to _ _ (sym c.head_of.ensures.0 ∙ c.in-Untyped.is)) c.put-in-Untyped.ensures.0 c.put-in-Untyped.ensures.1 in
     (written_same (sym (trm-same (goal.at.term_written-returns-in-Untyped t c).After-head_of)) w.0, w.1, past_later a.at a.off (past_kept a.at a.off c.requires.7 w.1 (omega arith) (put_memo c.requires.5 a.at (trm-p (goal.at.term_written-returns-in-Untyped t c).After-head_of) a.to a.off (let z = trm-some (goal.at.term_written-returns-in-Untyped t c).After-head_of in omega (arith, trm-room (goal.at.term_written-returns-in-Untyped t c).After-head_of)) (omega (arith, trm-fits (goal.at.term_written-returns-in-Untyped t c).After-head_of)) (let z = trm-some (goal.at.term_written-returns-in-Untyped t c).After-head_of in omega (arith, trm-room (goal.at.term_written-returns-in-Untyped t c).After-head_of)) c.put-in-Untyped.ensures.0 c.put-in-Untyped.ensures.1)) (omega arith) (omega arith))

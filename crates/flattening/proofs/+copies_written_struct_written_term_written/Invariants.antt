@@ -2,7 +2,7 @@
 -- for terms: `copies_written` for that very place, `struct_written` for any, with the structs below it. So 2048 k + 2 p falls for a term, copies
 -- of it are one above, and a struct N lies between, at 2048 N + 1024. Assumes nothing.
 use Prim.Native.Nat.{ℕ, ◌+◌, ◌*◌, ◌-◌, ◌≤◌, ◌<◌}
-use Rattle.rules.specs.Flat.{copies_of, count}
+use Rattle.rules.specs.Flat.{copies_of}
 use Rattle.positions.specs.Table.{term_layout}
 use Rattle.flattening.specs.Written.{Written, Kept, Past}
 use lib.ListN.{length}

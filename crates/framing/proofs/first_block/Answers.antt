@@ -1,8 +1,6 @@
 -- `framing::first_block` meets its contract: every test passed holds. Assumes nothing.
 use Rattle.words.specs.FirstLaws.{first_found, first_ended}
-use mathlib.Core.Bool.{true}
 use borrow.Author.Count.{below_none, below_more}
-use Rattle.rules.specs.File.{block_test}
 use native.Mathlib.Omega.{arith}
 use mathlib.Core.Path.{sym, ◌∙◌}
 use Rattle.framing.proofs.first_block.Goals as goal

@@ -23,7 +23,6 @@ use Rattle.positions.specs.declared.Primitive.{Primitive}
 use Rattle.terms.specs.HeadLaws.{fair_at}
 use Rattle.terms.specs.declared.Head.TheVariants.{Arr}
 use native.Mathlib.Nat.{div-add-mod'}
-use borrow.Fn.PlainCycle.{is}
 use Rattle.positions.proofs.+struct_prim_term_prim.Goals as goal
 
 -- What is known of a field once its extent is read, c, in plain names.
@@ -104,7 +103,7 @@ struct_prim-term_prim-requires t c =
     )
 
 pub struct_prim-returns-then-i-count : goal.struct_prim-returns-then-i-count
-struct_prim-returns-then-i-count t c =  (
+struct_prim-returns-then-i-count t c = (
   found_field (fld-f (goal.at.struct_prim-returns-then-i-count t c).After-extent_in-e) (fld-n (goal.at.struct_prim-returns-then-i-count t c).After-extent_in-e) (fld-N (goal.at.struct_prim-returns-then-i-count t c).After-extent_in-e) c.requires.4.terms c.args.off c.args.i c.requires.1 c.requires.2 (fld-j (goal.at.struct_prim-returns-then-i-count t c).After-extent_in-e) c.loop-j.size c.loop-j.count (fld-less (goal.at.struct_prim-returns-then-i-count t c).After-extent_in-e) c.loop-j.invariant.1 c.loop-j.invariant.2 c.loop-j.invariant.3 (let h = c.if-i-count.true in let e = fld-count (goal.at.struct_prim-returns-then-i-count t c).After-extent_in-e in omega arith) c.term_prim.result c.args.to
       (subst (λ (L : Layout variable). Found (fld-f (goal.at.struct_prim-returns-then-i-count t c).After-extent_in-e) c.term_prim.result c.args.to (c.args.off + c.loop-j.size) (nth L (c.args.i - c.loop-j.count))) (fld-same (goal.at.struct_prim-returns-then-i-count t c).After-extent_in-e) c.term_prim.ensures.0),
   c.term_prim.ensures.1,
@@ -118,7 +117,7 @@ pub struct_prim-overflow_add-count-in-loop-j : goal.struct_prim-overflow_add-cou
 struct_prim-overflow_add-count-in-loop-j t c = omega (arith, extent_small c.args.tab.now c.place_of-p.result c.extent_in-e.result c.extent_in-e.ensures, c.loop-j.invariant.3, c.requires.5)
 
 pub struct_prim-loop-j-preserved : goal.struct_prim-loop-j-preserved
-struct_prim-loop-j-preserved t c =  (
+struct_prim-loop-j-preserved t c = (
   omega arith,
   ap (λ (x : ℕ). c.loop-j.size + x) (fld-size (goal.at.struct_prim-loop-j-preserved t c).After-extent_in-e) ∙ size_next c.args.f.now c.args.n c.args.number c.requires.4.terms c.args.off c.args.i c.requires.1 c.requires.2 c.loop-j.j c.loop-j.size c.loop-j.count (fld-less (goal.at.struct_prim-loop-j-preserved t c).After-extent_in-e) c.loop-j.invariant.1 c.loop-j.invariant.2 ∙ ap (λ (x : ℕ). (before c.args.f.now c.args.n c.args.number x).size) (sym (add-one c.loop-j.j)),
   ap (λ (x : ℕ). c.loop-j.count + x) (fld-count (goal.at.struct_prim-loop-j-preserved t c).After-extent_in-e) ∙ count_next c.args.f.now c.args.n c.args.number c.requires.4.terms c.args.off c.args.i c.requires.1 c.requires.2 c.loop-j.j c.loop-j.size c.loop-j.count (fld-less (goal.at.struct_prim-loop-j-preserved t c).After-extent_in-e) c.loop-j.invariant.1 c.loop-j.invariant.2 ∙ ap (λ (x : ℕ). length (before c.args.f.now c.args.n c.args.number x).prims) (sym (add-one c.loop-j.j)),
@@ -243,8 +242,7 @@ term_prim-returns-else-count-eq0 t c = (trm-found (goal.at.term_prim-returns-els
 
 pub term_prim-returns-in-Int : goal.term_prim-returns-in-Int
 term_prim-returns-in-Int t c =
-    let a = c.args in
-     (
+    let a = c.args in (
       trm-found (goal.at.term_prim-returns-in-Int t c).After-head_of (record { off = a.off; place = trm-p (goal.at.term_prim-returns-in-Int t c).After-head_of; to = a.to }) (found_single a.f.now a.k (trm-p (goal.at.term_prim-returns-in-Int t c).After-head_of) a.off a.i a.to _ (single_int a.f.now a.k (trm-p (goal.at.term_prim-returns-in-Int t c).After-head_of) a.off a.i a.to _ (sym c.head_of.ensures.0 ∙ c.in-Int.is)) (trm-inside (goal.at.term_prim-returns-in-Int t c).After-head_of)),
       trm-low (goal.at.term_prim-returns-in-Int t c).After-head_of,
       omega (arith, trm-fits (goal.at.term_prim-returns-in-Int t c).After-head_of),
@@ -252,8 +250,7 @@ term_prim-returns-in-Int t c =
 
 pub term_prim-returns-in-Ptr : goal.term_prim-returns-in-Ptr
 term_prim-returns-in-Ptr t c =
-    let a = c.args in
-     (
+    let a = c.args in (
       trm-found (goal.at.term_prim-returns-in-Ptr t c).After-head_of (record { off = a.off; place = trm-p (goal.at.term_prim-returns-in-Ptr t c).After-head_of; to = a.to }) (found_single a.f.now a.k (trm-p (goal.at.term_prim-returns-in-Ptr t c).After-head_of) a.off a.i a.to _ (single_ptr a.f.now a.k (trm-p (goal.at.term_prim-returns-in-Ptr t c).After-head_of) a.off a.i a.to _ _ (sym c.head_of.ensures.0 ∙ c.in-Ptr.is)) (trm-inside (goal.at.term_prim-returns-in-Ptr t c).After-head_of)),
       trm-low (goal.at.term_prim-returns-in-Ptr t c).After-head_of,
       omega (arith, trm-fits (goal.at.term_prim-returns-in-Ptr t c).After-head_of),
@@ -264,8 +261,7 @@ term_prim-returns-in-Struct t c = absurd (subst NoStruct (sym c.head_of.ensures.
 
 pub term_prim-returns-in-Untyped : goal.term_prim-returns-in-Untyped
 term_prim-returns-in-Untyped t c =
-    let a = c.args in
-     (
+    let a = c.args in (
       trm-found (goal.at.term_prim-returns-in-Untyped t c).After-head_of (record { off = a.off; place = trm-p (goal.at.term_prim-returns-in-Untyped t c).After-head_of; to = a.to }) (found_single a.f.now a.k (trm-p (goal.at.term_prim-returns-in-Untyped t c).After-head_of) a.off a.i a.to _ (single_untyped a.f.now a.k (trm-p (goal.at.term_prim-returns-in-Untyped t c).After-head_of) a.off a.i a.to _ _ (sym c.head_of.ensures.0 ∙ c.in-Untyped.is)) (trm-inside (goal.at.term_prim-returns-in-Untyped t c).After-head_of)),
       trm-low (goal.at.term_prim-returns-in-Untyped t c).After-head_of,
       omega (arith, trm-fits (goal.at.term_prim-returns-in-Untyped t c).After-head_of),

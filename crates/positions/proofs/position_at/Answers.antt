@@ -28,11 +28,11 @@ pub place_off-requires : goal.place_off-requires
 place_off-requires c = (c.requires, c.place_of-p.ensures.1, (let h = c.if-i-many.true in let e = many (goal.at.place_off-requires c).After-lower-i in omega arith))
 
 pub returns-then-place_off-o : goal.returns-then-place_off-o
-returns-then-place_off-o c =  let e = c.place_off.ensures in
+returns-then-place_off-o c = let e = c.place_off.ensures in
     lower_found (L (goal.at.returns-then-place_off-o c).After-lower-i) c.args.o c.lower-i.result c.lower-i.ensures (let h = c.if-i-many.true in let w = many (goal.at.returns-then-place_off-o c).After-lower-i in omega arith) (sym e ∙ c.if-place_off-o.true) ∙ position (goal.at.returns-then-place_off-o c).After-lower-i
 
 pub returns-then-i-many : goal.returns-then-i-many
-returns-then-i-many c =  let e = c.place_off.ensures in
+returns-then-i-many c = let e = c.place_off.ensures in
     lower_other (L (goal.at.returns-then-i-many c).After-lower-i) c.args.o c.lower-i.result c.lower-i.ensures (layout_rising c.args.f.now c.args.n c.args.k c.requires.counted c.place_of-p.result) (let h = c.if-i-many.true in let w = many (goal.at.returns-then-i-many c).After-lower-i in omega arith) (λ z. c.if-place_off-o.false (e ∙ z)) _ (many (goal.at.returns-then-i-many c).After-lower-i) ∙ position (goal.at.returns-then-i-many c).After-lower-i
 
 pub returns : goal.returns

@@ -3,7 +3,6 @@ use mathlib.Core.Path.{sym, ap, ◌∙◌}
 use mathlib.Core.Logic.{⊎_elim}
 use Rattle.words.specs.Choose.{lt_or_le}
 use Prim.Native.Nat.{◌≤◌, ◌<◌}
-use mathlib.Core.Bool.{true}
 use borrow.Author.Count.{below_none, below_more}
 use native.Mathlib.Omega.{arith}
 use Rattle.walk.specs.Tables.{tables_walk, tables_starts, records_few, room_at, callee_at}

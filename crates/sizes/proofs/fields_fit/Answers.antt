@@ -1,6 +1,5 @@
 -- `sizes::fields_fit` meets its contract: the fields passed fit.
 use mathlib.Core.Path.{ap, sym, ◌∙◌}
-use mathlib.Core.Bool.{true}
 use borrow.Author.Count.{below_more}
 use Rattle.functions.specs.Does.{scan_broken, scan_ended}
 use Rattle.rules.specs.declared.Record.{Record}

@@ -1,6 +1,5 @@
 -- `sizes::first_struct` meets its contract: the structs passed keep refusal 5's rules.
 use mathlib.Core.Path.{sym, ◌∙◌}
-use mathlib.Core.Bool.{true}
 use borrow.Author.Count.{below_more}
 use Rattle.words.specs.FirstLaws.{first_found, first_none}
 use Rattle.rules.specs.Decode.{module_of}

@@ -1,6 +1,5 @@
 -- `sizes::first_term` meets its contract: the terms passed keep refusal 5's rules.
 use mathlib.Core.Path.{sym, ◌∙◌}
-use mathlib.Core.Bool.{true}
 use borrow.Author.Count.{below_more}
 use Rattle.words.specs.FirstLaws.{first_found, first_none}
 use Rattle.rules.specs.Decode.{module_of}

@@ -1,5 +1,5 @@
 -- The two functions of the cycle meet their contracts: a term by its head, a struct field by field. Assumes nothing.
-use Rattle.std.proofs.Common.{◌≡◌, ℕ, ◌+◌, ◌*◌, ◌≤◌, sym, ap, ◌∙◌, arith}
+use Rattle.std.proofs.Common.{◌≡◌, ℕ, ◌+◌, ◌*◌, sym, ap, ◌∙◌, arith}
 use Rattle.words.specs.Bytes.{Bytes}
 use Rattle.rules.specs.File.{entry_of, record_of}
 use Rattle.rules.specs.declared.Record.{Record}

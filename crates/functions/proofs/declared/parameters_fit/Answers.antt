@@ -1,6 +1,5 @@
 -- `functions::declared::parameters_fit` meets its contract: the parameters passed are i32.
 use mathlib.Core.Path.{sym, ap, ◌∙◌}
-use mathlib.Core.Bool.{true}
 use borrow.Author.Count.{below_more}
 use Rattle.functions.specs.Does.{scan_broken, scan_ended}
 use Rattle.rules.specs.declared.Record.{Record}

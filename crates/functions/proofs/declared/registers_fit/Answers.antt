@@ -1,6 +1,5 @@
 -- `functions::declared::registers_fit` meets its contract: the registers passed fit.
 use mathlib.Core.Path.{sym, ap, ◌∙◌}
-use mathlib.Core.Bool.{true}
 use borrow.Author.Count.{below_more}
 use Rattle.functions.specs.Does.{scan_broken, scan_ended}
 use Rattle.rules.specs.declared.Record.{Record}

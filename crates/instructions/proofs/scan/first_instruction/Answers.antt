@@ -1,7 +1,6 @@
 -- `instructions::scan::first_instruction` meets its contract: r is the record of instruction i, and those passed keep their rules.
 use mathlib.Core.Path.{◌≡◌, refl, sym, ap, ◌∙◌}
 use Prim.Native.Nat.{ℕ, ◌<◌, ◌-◌}
-use mathlib.Core.Bool.{true}
 use mathlib.Core.Logic.{⊎_elim}
 use Prim.Native.Nat.{◌+◌}
 use Rattle.words.specs.Choose.{lt_or_le}

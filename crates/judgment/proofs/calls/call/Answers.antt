@@ -10,7 +10,6 @@ use Rattle.rules.specs.Types.{region}
 use Rattle.rules.specs.Decode.{region_bytes, start_of}
 use Rattle.judgment.specs.Calls.{call_parts, call_test, given_regions}
 use native.Mathlib.Omega.{arith}
-use borrow.Author.Rules.{rules}
 use Rattle.judgment.proofs.calls.call.Goals as goal
 
 pub slice_bounds-call_parts-end : goal.slice_bounds-call_parts-end

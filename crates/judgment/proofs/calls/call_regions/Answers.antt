@@ -1,6 +1,5 @@
 -- `judgment::calls::call_regions` meets its contract: those passed keep the rule.
 use mathlib.Core.Path.{sym, ap, ◌∙◌}
-use mathlib.Core.Bool.{true}
 use borrow.Author.Count.{below_more}
 use Rattle.functions.specs.Does.{scan_broken, scan_ended}
 use Rattle.rules.specs.declared.Record.{Record}
