@@ -1,5 +1,4 @@
--- Document 01's small cases proved: C3 from the table of files, and C1 to C9 by computation. They stand here and not in specs/, so that an
--- edit of a definition that they rest on is refused by what is computed. Assumes nothing.
+-- The table of specs/Cases: C1 to C9 by computation, C3 from the table of files. Assumes nothing.
 use Rattle.std.specs.Prelude.{◌≡◌, refl}
 use Rattle.std.proofs.Math.Decide.{ℕ_discrete, dec_lt, dec_le}
 use Rattle.words.specs.Bits.{bit, with_bit}

@@ -9,9 +9,11 @@ use Rattle.rules.specs.WellTyped.{WellTyped, EntryOk}
 use Rattle.rules.specs.Verdict.{verdict_of, IsAccepted}
 use Rattle.layout.specs.TypesOk.{TypesOk}
 use Rattle.typing.specs.Accepted.{accepted}
-use Rattle.typing.specs.Types.{DeepModule, deep}
-use Rattle.typing.specs.Flat.{types_ok}
-use Rattle.typing.specs.Facts.{FunctionFacts, function_facts}
+use Rattle.typing.specs.Types.{DeepModule}
+use Rattle.typing.proofs.Types.{deep}
+use Rattle.typing.proofs.Flat.{types_ok}
+use Rattle.typing.specs.Facts.{FunctionFacts}
+use Rattle.typing.proofs.Facts.{function_facts}
 
 pub record ModuleOk (m : Module) : Type 0 where
   pub types : TypesOk m

@@ -19,7 +19,8 @@ use Rattle.state.specs.Apply.{apply}
 use Rattle.state.specs.Reads.{memory_lt}
 use Rattle.state.specs.Effects.{Bounded, view_apply}
 use Rattle.state.specs.Whole.{Whole, whole_apply}
-use Rattle.state.specs.Independence.{decides_law, reads_law, keeps_law, clears_law}
+use Rattle.state.specs.Independence.{decides_law, reads_law}
+use Rattle.state.proofs.Independence.{keeps_law, clears_law}
 use Rattle.soundness.specs.Facts.{ModuleOk}
 use Rattle.soundness.specs.Good.{Good}
 use Rattle.soundness.specs.Safe.{Safe}

@@ -1,15 +1,16 @@
 -- The byte facts of a safe step (SafeStep): which effect it is depends on no page byte; what it leaves below the pages depends on the page
--- bytes that it reads only; and it changes no page byte but a store's, a handed out object's and a granted page's. Assumes nothing.
+-- bytes that it reads only; and it changes no page byte but a store's, a handed out object's and a granted page's (of the
+-- state's bytes: proofs/Independence). Assumes nothing.
 use Rattle.std.specs.Prelude.{◌≡◌, cond, ◌⊎◌, length}
 use Rattle.std.proofs.Math.Path.{refl, ap}
 use Rattle.std.proofs.Common.{sym, ◌∙◌, inl, inr, arith}
 use mathlib.Core.List.{List, [], ◌∷◌, ◌++◌}
 use Prim.Native.Nat.{ℕ, zero, suc, ◌+◌, ◌*◌, ◌-◌, ◌%◌, ◌<◌, ◌≤◌}
 use Rattle.std.proofs.Math.Decide.{dec_lt}
-use Rattle.words.specs.Bytes.{Bytes, AllBytes, byte_at, little, splice}
+use Rattle.words.specs.Bytes.{Bytes, byte_at, little, splice}
 use Rattle.words.specs.ByteLaws.{length_splice, length_little, get_d_splice_in, get_d_splice_out, byte_past}
 use Rattle.words.specs.Bits.{with_bit}
-use Rattle.rules.specs.Limits.{most_frames, pages, page_bytes, memory_bytes, state_bytes, memory_at}
+use Rattle.rules.specs.Limits.{most_frames, pages, page_bytes, memory_bytes, memory_at}
 use Rattle.rules.specs.Decision.{dec_typed}
 use Rattle.rules.specs.Module.{Instruction, constant, copy, operate, zero_extend, sign_extend, address, check, field, index, load, store, new, free, input, output, jump, branch, call, return, new_bytes, load_byte, store_byte, check_bytes, Function, Module}
 use Rattle.rules.specs.State.{mark_place, memory_place, memory_byte, memory_number, View, view, Write, written, put_status, put_frames, put_output_count, put_result, put_owner, put_mark, put_marks, clear_memory, clear_page, put_memory, put_instruction, put_frame, clear_marks, clear_frame}
@@ -23,7 +24,6 @@ use Rattle.state.specs.Apply.{apply}
 use Rattle.state.specs.Areas.{range_agree, view_eq, memory_agree, stack_same, owners_same, marks_same, status_agree, frames_agree, output_count_agree, result_agree, with_memory}
 use Rattle.state.specs.Puts.{after}
 use Rattle.state.specs.Closing.{written_append}
-use Rattle.state.specs.Effects.{Bounded, view_apply}
 use Rattle.state.specs.Reads.{memory_is}
 
 -- ---- what is decided
@@ -216,18 +216,3 @@ memory_cleared m k e v i h = elim (clear_of e i h) [
 pub memory_byte_law : (s : Bytes) (i : ℕ) → i < memory_bytes → (view s).memory i ≡ byte_at s (memory_place i)
 unfolding view
 memory_byte_law s i l = memory_is s l
-
-pub keeps_law : (m : Module) (s : Bytes) → length s ≡ state_bytes → AllBytes s → (k : ℕ) (e : Effect) → Bounded (view s) k e
-    → (i : ℕ) → i < memory_bytes → ¬ Changes e i → byte_at (apply_state m k e s) (memory_place i) ≡ byte_at s (memory_place i)
-keeps_law m s sized bytes k e b i l n =
-    sym (memory_byte_law (apply_state m k e s) i l)
-    ∙ ap (λ (v : View). v.memory i) (view_apply m s sized bytes k e b)
-    ∙ memory_kept m k e (view s) i n
-    ∙ memory_byte_law s i l
-
-pub clears_law : (m : Module) (s : Bytes) → length s ≡ state_bytes → AllBytes s → (k : ℕ) (e : Effect) → Bounded (view s) k e
-    → (i : ℕ) → i < memory_bytes → Within (footprint e).clears i → byte_at (apply_state m k e s) (memory_place i) ≡ 0
-clears_law m s sized bytes k e b i l h =
-    sym (memory_byte_law (apply_state m k e s) i l)
-    ∙ ap (λ (v : View). v.memory i) (view_apply m s sized bytes k e b)
-    ∙ memory_cleared m k e (view s) i h

@@ -1,7 +1,7 @@
--- What acceptance means: the framing is right, each record fits, and the module is well typed; and the other way round.
--- Assumes nothing.
-use Rattle.std.specs.Prelude.{◌≡◌, refl, true, cond, ◌&&◌, ◌↔◌, List, [], ◌∷◌, ℕ, ◌+◌, ◌-◌, ◌*◌, ◌/◌, ◌%◌, ◌<◌, ◌≤◌, leb, eqb, get_or}
-use Rattle.std.proofs.Common.{sym, ◌∙◌, subst, arith, leb-true, eq-eqb, ne_eqb}
+-- What acceptance means: the framing is right, each record fits, and the module is well typed; and the other way round
+-- (`accepted_iff`, in proofs/Accepted). Assumes nothing.
+use Rattle.std.specs.Prelude.{◌≡◌, refl, true, ◌&&◌, List, [], ◌∷◌, ℕ, ◌+◌, ◌-◌, ◌*◌, ◌/◌, ◌%◌, ◌<◌, ◌≤◌, leb, get_or}
+use Rattle.std.proofs.Common.{sym, ◌∙◌, arith, leb-true}
 use Rattle.std.proofs.Math.Decide.{ℕ_discrete}
 use Rattle.words.specs.Bytes.{Bytes, list_of}
 use Rattle.rules.specs.Limits.{most_regions, most_region_params, most_entries, most_registers, most_instructions}
@@ -15,8 +15,8 @@ use Rattle.rules.specs.Decode.{trees_of, function_of, module_of}
 use Rattle.rules.specs.Decision.{dec_typed}
 use Rattle.rules.specs.WellTyped.{FunctionOk, EntryOk, Ranges, Tables, WellTyped, dec_term, dec_struct, dec_function, dec_entry, dec_last}
 use Rattle.rules.specs.Verdict.{term_test, struct_test, function_test, instruction_test, instruction_stage, last_stage, last_test, module_stages, accepted_as, module_rules, record_rules, verdict_of, IsAccepted}
-use Rattle.typing.specs.Tests.{left, right, true_does}
-use Rattle.typing.specs.Stages.{AllPass, all_pass, pass_all, pass_append, append_pass, pass_each, each_pass}
+use Rattle.typing.specs.Tests.{left, right}
+use Rattle.typing.specs.Stages.{AllPass, all_pass, pass_all, pass_append, pass_each}
 use Rattle.typing.specs.Walk.{Fits, good, some_function}
 
 -- ---- refusals 1 to 4 find nothing
@@ -35,14 +35,6 @@ even_test f i = let a : 2 * i % 2 ≡ 0 = omega arith in let b : 2 * i / 2 ≡ i
 pub odd_test : (f : Bytes) (i : ℕ) → block_test f (2 * i + 1) ≡ check_right f i
 unfolding block_test
 odd_test f i = let a : (2 * i + 1) % 2 ≡ 1 = omega arith in let b : (2 * i + 1) / 2 ≡ i = omega arith in rw (a, b)
-
-block_passes : (f : Bytes) → Framed f → (p : ℕ) → p < 2 * blocks f → block_test f p ≡ true
-unfolding block_test
-block_passes f w p h = go (ℕ_discrete (p % 2) 0)
-  where
-    go : Dec (p % 2 ≡ 0) → cond (eqb (p % 2) 0) (place_right f (p / 2)) (check_right f (p / 2)) ≡ true
-    go (yes z) = rw (eq-eqb (p % 2) 0 z) (w.places (p / 2) (omega arith))
-    go (no z) = rw (ne_eqb (p % 2) 0 z) (w.checks (p / 2) (omega arith))
 
 -- ---- the ranges, which refusal 4 has made sure of
 
@@ -133,38 +125,6 @@ accepted f a =
       typed = λ g i h l. does_true (dec_typed m (m.function g) ((m.function g).code i)) (pass_each (instruction_stage f m) 0 m.functions e.0 g (omega arith) (omega arith) i l);
       lasts = λ g h. does_true (dec_last ((m.function g).code ((m.function g).code_length - 1))) (e.1.0 g h);
     }
-
--- a file whose framing and records pass, and whose module is well typed, is accepted, with its module's counts
-pub complete : (f : Bytes) → Framed f → WellTyped (module_of f) → verdict_of f ≡ accepted_as (module_of f)
-unfolding module_stages term_test struct_test function_test instruction_test instruction_stage last_test
-complete f w t =
-    let m = module_of f in
-    passes_accepted f (
-      (λ j h. w.file_length),
-      (
-        block_passes f w,
-        (
-          records_fit f w,
-          (
-            (λ i h. true_does (dec_term m (m.term i)) (t.terms i h)),
-            (
-              (λ N h. true_does (dec_struct m N) (t.structs N h)),
-              (
-                (λ g h. true_does (dec_both (dec_function (m.function g)) (dec_imp (ℕ_discrete g 0) (dec_entry (m.function g))))
-                    (t.functions g h, λ e. subst (λ (k : ℕ). EntryOk (m.function k)) (sym e) t.entry)),
-                append_pass (list_of (instruction_stage f m) m.functions) (last_stage f m ∷ [])
-                    (each_pass (instruction_stage f m) 0 m.functions (λ g h l i k. true_does (dec_typed m (m.function g) ((m.function g).code i)) (t.typed g i (omega arith) k)))
-                    ((λ g h. true_does (dec_last ((m.function g).code ((m.function g).code_length - 1))) (t.lasts g h)), tt),
-              ),
-            ),
-          ),
-        ),
-      ),
-    )
-
--- the verdict accepts a file exactly when all the rules hold of it
-pub accepted_iff : (f : Bytes) → IsAccepted (verdict_of f) ↔ (Framed f × WellTyped (module_of f))
-accepted_iff f = (λ a. (framed f a, accepted f a), λ h. subst IsAccepted (sym (complete f h.0 h.1)) tt)
 
 -- and then it has the module's counts
 pub counts : (f : Bytes) → IsAccepted (verdict_of f) → verdict_of f ≡ accepted_as (module_of f)

@@ -1,0 +1,6 @@
+-- Theorems that rest on a definition which a must-fail edit changes: from here, and not from specs/, they refuse it.
+pub mod Accepted
+pub mod Types
+pub mod Flat
+pub mod Facts
+pub mod Order
