@@ -1,5 +1,5 @@
 // Going on twice: the second call gets the state as the first one left it. What this ensures is what demand 3 claims of two calls
-// (`twice-Meets`, specs/Calls.antt).
+// (`twice_meets`, specs/Calls.antt).
 ghost use Rattle.rules.specs.Host.{go_of};
 ghost use Rattle.host.specs.Calls.{WentTwice};
 
