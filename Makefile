@@ -6,11 +6,11 @@
 #     make install PREFIX=/usr/local DESTDIR=     what is built; DESTDIR is put before every path, for packages
 #     make uninstall PREFIX=/usr/local DESTDIR=   takes away what install puts there
 #
-# LIB names the proved archive. Where it is the one below and missing, `rt lib` in crates/rcm proves and builds it, which takes about ten
+# LIB names the proved archive. Where it is the one below and missing, packaging/archive proves and builds it, which takes about ten
 # minutes on two processors. TOOL names the tool, which is installed if it is there. Paths have no blanks and none of REFUSED below, as the
 # shell, sed and the files that are filled would read them as something else.
 
-PROVED = crates/rcm/out/librcm.a
+PROVED = target/staticlib/librcm.a
 LIB = $(PROVED)
 TOOL = rust/target/release/rcm
 BUILD = target/install
@@ -84,7 +84,7 @@ ifeq ($(LIB),$(PROVED))
 $(LIB):
 	@command -v rt >/dev/null || { echo "make: expected $(LIB), or LIB=path/librcm.a; found none, and no rt that builds it" >&2; exit 1; }
 	@echo "$(LIB) is missing: rt proves and builds it, about ten minutes on two processors"
-	cd crates/rcm && rt lib
+	packaging/archive
 else
 $(LIB):
 	@echo "make: LIB=$(LIB): there is no such file" >&2; exit 1

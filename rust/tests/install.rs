@@ -456,7 +456,7 @@ fn a_missing_archive_is_proved_with_a_word_before() {
     fs::write(tools.join("rt"), copied).expect("a program");
     bash(&tools, "chmod +x rt");
     let said = finished("make", &run());
-    let order = ["about ten minutes", "cd crates/rcm && rt lib", "the proved library, from"];
+    let order = ["about ten minutes", "packaging/archive", "the proved library, from"];
     let places: Vec<_> = order.iter().map(|words| said.find(words)).collect();
     assert!(places.iter().all(Option::is_some) && places.is_sorted(), "{said}");
 }
@@ -534,7 +534,7 @@ fn the_page_for_hosts_does_what_it_says() {
         .expect("bash");
     let printed = lossy(&shell.stdout)
         .replace(&build.display().to_string(), "target/install")
-        .replace(&library().display().to_string(), "crates/rcm/out/librcm.a")
+        .replace(&library().display().to_string(), "target/staticlib/librcm.a")
         .replace(&home.display().to_string(), "/srv/ada");
     let printed: Vec<&str> =
         printed.split(&format!("{MARK}\n")).skip(1).map(str::trim_end).collect();

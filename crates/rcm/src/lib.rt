@@ -1,4 +1,5 @@
-// The C interface: include/rcm.h. Each function's contract gives the numbers of its answer by a definition of rules' specs/Host.antt.
+// What the C interface answers (include/rcm.h; crate rcm_c has its exports). Each function's contract gives the numbers of its answer by a
+// definition of rules' specs/Host.antt.
 #![tactic(auto)]
 
 ghost use Rattle.std.specs.Prelude.{◌≡◌, ◌+◌, ◌*◌, ◌≤◌};
@@ -21,8 +22,7 @@ use state::places::page_place;
 
 // Functions and instructions in one number.
 fn packed(functions: usize, instructions: usize) -> u64
-    requires functions { functions ≤ most_functions }
-    requires instructions { instructions ≤ most_functions * most_instructions }
+    requires { (functions ≤ most_functions) × (instructions ≤ most_functions * most_instructions) }
     ensures { result ≡ functions * 65536 + instructions }
 {
     (functions as u64) * 65536 + (instructions as u64)
@@ -97,8 +97,7 @@ fn part_numbers(size: usize, address: u32) -> [u64; 4]
 }
 
 // The verdict on a module file.
-#[unsafe(no_mangle)]
-pub extern "C" fn rcm_check(file: &[u8], answer: &mut [u64; 4])
+pub fn rcm_check(file: &[u8], answer: &mut [u64; 4])
     ensures { answer.new ≡ check_numbers (verdict_of file.now) }
 {
     let v = checker::verdict(file);
@@ -106,8 +105,7 @@ pub extern "C" fn rcm_check(file: &[u8], answer: &mut [u64; 4])
 }
 
 // Opening: the first state of a module.
-#[unsafe(no_mangle)]
-pub extern "C" fn rcm_open(file: &[u8], arguments: &[u8], state: &mut [u8], answer: &mut [u64; 4])
+pub fn rcm_open(file: &[u8], arguments: &[u8], state: &mut [u8], answer: &mut [u64; 4])
     ensures answer { answer.new ≡ open_numbers (open_of file.now arguments.now state.old) }
     ensures state { state.new ≡ left_opened (open_of file.now arguments.now state.old) state.old }
 {
@@ -116,8 +114,7 @@ pub extern "C" fn rcm_open(file: &[u8], arguments: &[u8], state: &mut [u8], answ
 }
 
 // Going on for at most budget steps.
-#[unsafe(no_mangle)]
-pub extern "C" fn rcm_go(
+pub fn rcm_go(
     file: &[u8],
     form: &[u8],
     state: &mut [u8],
@@ -134,8 +131,7 @@ pub extern "C" fn rcm_go(
 }
 
 // The state test.
-#[unsafe(no_mangle)]
-pub extern "C" fn rcm_test(file: &[u8], state: &[u8], answer: &mut [u64; 4])
+pub fn rcm_test(file: &[u8], state: &[u8], answer: &mut [u64; 4])
     ensures { answer.new ≡ test_numbers (test_of file.now state.now) }
 {
     let r = host::test::state_test(file, state);
@@ -143,8 +139,7 @@ pub extern "C" fn rcm_test(file: &[u8], state: &[u8], answer: &mut [u64; 4])
 }
 
 // The object around an address.
-#[unsafe(no_mangle)]
-pub extern "C" fn rcm_object(file: &[u8], state: &[u8], address: u32, answer: &mut [u64; 4])
+pub fn rcm_object(file: &[u8], state: &[u8], address: u32, answer: &mut [u64; 4])
     ensures { answer.new ≡ part_numbers (object_of file.now state.now address) }
 {
     let part = host::object::inspect(file, state, address);
