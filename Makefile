@@ -84,7 +84,7 @@ ifeq ($(LIB),$(PROVED))
 $(LIB):
 	@command -v rt >/dev/null || { echo "make: expected $(LIB), or LIB=path/librcm.a; found none, and no rt that builds it" >&2; exit 1; }
 	@echo "$(LIB) is missing: rt proves and builds it, about ten minutes on two processors"
-	packaging/archive
+	packaging/archive $@
 else
 $(LIB):
 	@echo "make: LIB=$(LIB): there is no such file" >&2; exit 1

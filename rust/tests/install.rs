@@ -452,7 +452,7 @@ fn a_missing_archive_is_proved_with_a_word_before() {
     let without = run();
     let error = lossy(&without.stderr);
     assert!(!without.status.success() && error.contains("found none, and no rt"), "{error}");
-    let copied = format!("#!/bin/sh\ncp {} {}\n", library().display(), proved.display());
+    let copied = format!("#!/bin/sh\nmkdir -p out\ncp {} out/librcm_c.a\n", library().display());
     fs::write(tools.join("rt"), copied).expect("a program");
     bash(&tools, "chmod +x rt");
     let said = finished("make", &run());
