@@ -1,9 +1,13 @@
 -- Laws of bits: what is read after one is set, that the others stay, and how code reads, sets and clears them with a mask 1 << k.
 -- Assumes nothing.
-use Rattle.std.specs.Prelude.{◌≡◌, refl, ◌≢◌, ℕ, zero, suc, ◌≤◌, ◌<◌, ◌+◌, ◌-◌, ◌*◌, ◌/◌, ◌%◌, ◌^◌, max}
+use Rattle.std.specs.Prelude.{◌≡◌, refl, ◌≢◌, ℕ, zero, suc, ◌<◌, ◌+◌, ◌-◌, ◌*◌, ◌/◌, ◌%◌, ◌^◌, max}
 use Rattle.std.proofs.Common.{sym, ap, ap₂, ◌∙◌, div-one, pow-suc, arith}
 use Rattle.std.proofs.Math.Nat.{div-div-eq-div-mul}
-use Rattle.std.specs.Int.Bits.{bit_or, or_step, or_zero_r}
+use Rattle.std.specs.Int.{w8}
+use Rattle.std.specs.Int.Bits.{bit_and, bit_or, or_step, or_zero_r}
+use Rattle.std.proofs.lemmas.Nat.{and_le_l}
+use Rattle.std.proofs.lemmas.Nat.Bits.{bit_at_clear_same, bit_at_clear_other}
+use Rattle.std.proofs.Math.Decide.{ℕ_discrete}
 use Rattle.std.proofs.Math.Pow.{pow-lt}
 use Rattle.words.specs.Bits.{bit, with_bit}
 
@@ -70,15 +74,6 @@ unfolding bit
 bit_shift b zero = ap (λ (x : ℕ). x % 2) (div-one b)
 bit_shift b (suc i) = ap (λ (x : ℕ). b / x % 2) (pow-suc 2 i ∙ omega arith) ∙ ap (λ (x : ℕ). x % 2) (sym (div-div-eq-div-mul b 2 (2 ^ i))) ∙ bit_shift (b / 2) i
 
--- set and cleared differ by the bit's weight
-pub set_clear : (b i : ℕ) → with_bit b i 1 ≡ with_bit b i 0 + 2 ^ i
-unfolding with_bit
-set_clear b zero = omega arith
-set_clear b (suc i) =
-    let h : with_bit (b / 2) i 1 ≡ with_bit (b / 2) i 0 + 2 ^ i = set_clear (b / 2) i in
-    let q : 2 ^ suc i ≡ 2 ^ i * 2 = pow-suc 2 i in
-    omega arith
-
 -- an or with the mask sets the bit
 pub or_sets : (b i : ℕ) → bit_or b (2 ^ i) ≡ with_bit b i 1
 unfolding with_bit
@@ -92,12 +87,16 @@ or_sets b (suc i) =
     ∙ ap (λ (x : ℕ). x * 2 + max (b % 2) 0) (or_sets (b / 2) i)
     ∙ omega arith
 
--- the mask can be taken away again, and then the bit is cleared
-pub or_covers : (b i : ℕ) → 2 ^ i ≤ bit_or b (2 ^ i)
-or_covers b i = rw (or_sets b i, set_clear b i) (omega arith)
+-- an and with all but the mask clears it
+pub and_clears : (b i : ℕ) → b < 256 → i < 8 → bit_and b (255 - 1 * 2 ^ i % 256) ≡ with_bit b i 0
+and_clears b i h l = bits_same 8 _ _ (let e = and_le_l b (255 - 1 * 2 ^ i % 256) in omega arith) (with_bit_byte b i 0 (omega arith) l h) bits
+  where
+    at : (j : ℕ) → Dec (i ≡ j) → j < 8 → bit (bit_and b (255 - 1 * 2 ^ i % 256)) j ≡ bit (with_bit b i 0) j
+    at j (yes e) m = rw (sym e) (sym (bit_shift _ i) ∙ bit_at_clear_same w8 b i l ∙ sym (bit_same b i 0 (omega arith)))
+    at j (no d) m = sym (bit_shift _ j) ∙ bit_at_clear_other w8 b i l j m (λ e. d (sym e)) ∙ bit_shift b j ∙ sym (bit_other b i j 0 (omega arith) d)
 
-pub or_clears : (b i : ℕ) → bit_or b (2 ^ i) - 2 ^ i ≡ with_bit b i 0
-or_clears b i = rw (or_sets b i, set_clear b i) (omega arith)
+    bits : (j : ℕ) → j < 8 → bit (bit_and b (255 - 1 * 2 ^ i % 256)) j ≡ bit (with_bit b i 0) j
+    bits j m = at j (ℕ_discrete i j) m
 
 -- 1 << k in a byte
 pub one_shifted : (k : ℕ) → k < 8 → 1 * 2 ^ k % 256 ≡ 2 ^ k

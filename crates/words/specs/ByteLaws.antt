@@ -3,7 +3,7 @@
 -- code written out. Last the list of a function's values. All over every width and place at once. Assumes nothing.
 use Rattle.std.specs.Prelude.{◌≡◌, ◌⊎◌, length, get_or, set, take, drop, replicate}
 use Rattle.std.proofs.Math.Path.{refl, sym, ap}
-use Rattle.std.proofs.Common.{ap₂, ◌∙◌, ⊎_elim, not-suc-le-zero, mod-lt, mod-eq_of_lt, pow-suc, add-zero, zero-add, suc-add, mul_comm, mul_assoc, one-add, arith, lit<}
+use Rattle.std.proofs.Common.{length-take, length-drop, ap₂, ◌∙◌, ⊎_elim, not-suc-le-zero, mod-lt, mod-eq_of_lt, pow-suc, add-zero, zero-add, suc-add, mul_comm, mul_assoc, one-add, arith, lit<}
 use mathlib.Core.List.{List, [], ◌∷◌, ◌++◌, map}
 use Rattle.std.proofs.Math.Logic.{inl, inr}
 use Prim.Native.Nat.{ℕ, zero, suc, ◌+◌, ◌-◌, ◌*◌, ◌/◌, ◌%◌, ◌^◌, ◌≤◌, ◌<◌}
@@ -11,7 +11,7 @@ use Rattle.std.proofs.Math.Nat.{mod-one, div-div-eq-div-mul}
 use Rattle.std.proofs.Math.Numerals.{towards_suc}
 use Rattle.std.proofs.Math.Decide.{dec_lt}
 use Rattle.std.proofs.Math.Arith.{mod-mul, digits_lt}
-use Rattle.std.proofs.lemmas.List.{length-replicate, get_or-replicate, replicate-append-replicate}
+use Rattle.std.proofs.lemmas.List.{length-replicate, get_or-replicate}
 use Rattle.std.proofs.Math.ListN.{get_or-eq_default}
 use Rattle.words.specs.Bytes.{Bytes, AllBytes, byte_at, number, little, splice, put, fill, list_from, list_of}
 
@@ -186,6 +186,17 @@ module _ {A : Type 0} where
   part_splice (x ∷ s) (suc i) l h = part_splice s i l (omega arith)
   part_splice (x ∷ s) zero [] h = refl
   part_splice (x ∷ s) zero (y ∷ l) h = ap (λ (r : List A). y ∷ r) (part_splice s zero l (omega arith))
+
+  -- a part of s that holds l now: what comes back of `&mut s[i..e]`
+  pub splice_part : (s : List A) (i k : ℕ) (l : List A) → length l ≡ k → i + k ≤ length s → take i s ++ (l ++ drop k (drop i s)) ≡ splice s i l
+  unfolding splice
+  splice_part [] zero k [] e h = rw (sym e) refl
+  splice_part [] zero k (y ∷ l) e h = absurd (omega arith)
+  splice_part [] (suc i) k l e h = absurd (omega arith)
+  splice_part (x ∷ s) (suc i) k l e h = ap (λ (r : List A). x ∷ r) (splice_part s i k l e (omega arith))
+  splice_part (x ∷ s) zero k [] e h = rw (sym e) refl
+  splice_part (x ∷ s) zero zero (y ∷ l) e h = absurd (omega arith)
+  splice_part (x ∷ s) zero (suc k) (y ∷ l) e h = ap (λ (r : List A). y ∷ r) (splice_part s zero k l (omega arith) (omega arith))
 
   -- a list as long takes the other's place
   pub splice_whole : (s l : List A) → length l ≡ length s → splice s zero l ≡ l
@@ -366,6 +377,20 @@ pub put_cut : (n : ℕ) (s : Bytes) (i v : ℕ) → put n s i (v % 256 ^ n) ≡ 
 unfolding put
 put_cut n s i v = ap (splice s i) (little_cut n v)
 
+-- ---- a part of the bytes that is written as a slice of its own, `&mut s[i..i + n]`
+
+pub put_part : (n : ℕ) (s : Bytes) (i v : ℕ) (l : Bytes) → l ≡ little n v → i + n ≤ length s
+    → take i s ++ (l ++ drop (i + n - i) (drop i s)) ≡ put n s i v
+unfolding put
+put_part n s i v l e h = rw e (splice_part s i (i + n - i) (little n v) (length_little n v ∙ omega arith) (omega arith))
+
+pub fill_part : (n : ℕ) (s : Bytes) (i v : ℕ) (l : Bytes) → l ≡ replicate (length (take (i + n - i) (drop i s))) v → i + n ≤ length s
+    → take i s ++ (l ++ drop (i + n - i) (drop i s)) ≡ fill n s i v
+unfolding fill
+fill_part n s i v l e h =
+    let k : length (take (i + n - i) (drop i s)) ≡ n = simp (length-take, length-drop) (omega arith) in
+    rw (e, k) (splice_part s i (i + n - i) (replicate n v) (length-replicate n v ∙ omega arith) (omega arith))
+
 -- ---- the widths of the code written out, the highest byte stored first
 
 pub number_one : (s : Bytes) (i : ℕ) → number 1 s i ≡ byte_at s i
@@ -389,28 +414,14 @@ put_one s i v = splice_one s i (v % 256)
 pub put_byte : (s : Bytes) (i v : ℕ) → v < 256 → put 1 s i v ≡ set s i v
 put_byte s i v h = put_one s i v ∙ ap (set s i) (mod-eq_of_lt h)
 
-pub put_two : (s : Bytes) (i v : ℕ) → put 2 s i v ≡ set (set s (i + 1) (v / 256 % 256)) i (v % 256)
-unfolding put little
-put_two s i v = simp (towards_suc, splice_cons, splice_none)
+-- the bytes of a number as `to_le_bytes` gives them
+pub little_two : (v : ℕ) → v % 65536 % 256 ∷ v % 65536 / 256 % 256 ∷ [] ≡ little 2 v
+unfolding little
+little_two v = little_cut 2 v
 
-pub put_four : (s : Bytes) (i v : ℕ)
-    → put 4 s i v ≡ set (set (set (set s (i + 3) (v / 16777216 % 256)) (i + 2) (v / 65536 % 256)) (i + 1) (v / 256 % 256)) i (v % 256)
-unfolding put little
-put_four s i v = simp (towards_suc, splice_cons, splice_none, div-div-eq-div-mul)
-
--- ---- a loop that fills
-
-pub fill_none : (s : Bytes) (i v : ℕ) → fill 0 s i v ≡ s
-unfolding fill
-fill_none s i v = splice_none s i
-
--- one byte more, upward
-pub fill_up : (n : ℕ) (s : Bytes) (i v : ℕ) → fill (n + 1) s i v ≡ set (fill n s i v) (i + n) v
-unfolding fill
-fill_up n s i v =
-    ap (splice s i) (sym (replicate-append-replicate n 1 v))
-    ∙ splice_snoc s i (replicate n v) v
-    ∙ ap (λ (k : ℕ). set (splice s i (replicate n v)) (i + k) v) (length-replicate n v)
+pub little_four : (v : ℕ) → v % 256 ∷ v / 256 % 256 ∷ v / 65536 % 256 ∷ v / 16777216 % 256 ∷ [] ≡ little 4 v
+unfolding little
+little_four v = simp div-div-eq-div-mul
 
 -- ---- the list of a function's values
 

@@ -10,7 +10,7 @@ ghost use Rattle.words.specs.Widths.{width_of};
 pub fn wide(x: u8) -> u32
     ensures { (result ≡ x) × (result < 256) }
 {
-    x as u32
+    u32::from(x)
 }
 
 // The lowest byte of v.
@@ -20,14 +20,14 @@ pub fn low(v: u32) -> u8
     (v % 256) as u8
 }
 
-// ---- readers that ask for their bytes
+// ---- readers that ask for their bytes. (Those of two and of four bytes are a line each: a parameter for the width would be longer.)
 
 // The two bytes from i on.
 pub fn half_at(s: &[u8], i: usize) -> u32
     requires { i + 2 ≤ length s.now }
     ensures { (result ≡ number 2 s.now i) × (result < 65536) }
 {
-    wide(s[i]) + wide(s[i + 1]) * 256
+    u32::from(u16::from_le_bytes([s[i], s[i + 1]]))
 }
 
 // The four bytes from i on. (One load: LLVM merges the four.)
@@ -35,7 +35,7 @@ pub fn word_at(s: &[u8], i: usize) -> u32
     requires { i + 4 ≤ length s.now }
     ensures { result ≡ number 4 s.now i }
 {
-    wide(s[i]) + wide(s[i + 1]) * 256 + wide(s[i + 2]) * 65536 + wide(s[i + 3]) * 16777216
+    u32::from_le_bytes([s[i], s[i + 1], s[i + 2], s[i + 3]])
 }
 
 // The primitive of w bytes from i on: 1, 2, else 4, which is asked first: it is the most frequent.
@@ -46,7 +46,7 @@ pub fn load(s: &[u8], i: usize, w: u64) -> u32
     if (w != 1) & (w != 2) {
         word_at(s, i)
     } else if w == 1 {
-        wide(s[i])
+        u32::from(s[i])
     } else {
         half_at(s, i)
     }
@@ -57,7 +57,7 @@ pub fn load(s: &[u8], i: usize, w: u64) -> u32
 pub fn byte(s: &[u8], i: usize) -> u8
     ensures { result ≡ byte_at s.now i }
 {
-    if i < s.len() { s[i] } else { 0 }
+    s.get(i).copied().unwrap_or(0)
 }
 
 // The two bytes from i on: one load but at the last byte. (No index wraps before the end of the slice.)
@@ -66,7 +66,11 @@ pub fn half(s: &[u8], i: usize) -> u32
 {
     let n = s.len();
     if i < n {
-        if n - i < 2 { wide(s[i]) } else { half_at(s, i) }
+        if n - i < 2 {
+            u32::from(s[i])
+        } else {
+            half_at(s, i)
+        }
     } else {
         0
     }
@@ -111,18 +115,14 @@ pub fn put_half(s: &mut [u8], i: usize, v: u32)
     requires { i + 2 ≤ length s.old }
     ensures { s.new ≡ put 2 s.old i v }
 {
-    s[i + 1] = low(v / 256);
-    s[i] = low(v);
+    s[i..i + 2].copy_from_slice(&((v % 65536) as u16).to_le_bytes());
 }
 
 pub fn put_word(s: &mut [u8], i: usize, v: u32)
     requires { i + 4 ≤ length s.old }
     ensures { s.new ≡ put 4 s.old i v }
 {
-    s[i + 3] = low(v / 16777216);
-    s[i + 2] = low(v / 65536);
-    s[i + 1] = low(v / 256);
-    s[i] = low(v);
+    s[i..i + 4].copy_from_slice(&v.to_le_bytes());
 }
 
 // v as the primitive of w bytes from i on: 1, 2, else 4, which is asked first likewise.
@@ -144,11 +144,7 @@ pub fn clear(s: &mut [u8], i: usize, n: usize)
     requires { i + n ≤ length s.old }
     ensures { s.new ≡ fill n s.old i 0 }
 {
-    let mut k = 0;
-    while k < n {
-        s[i + k] = 0;
-        k += 1;
-    }
+    s[i..i + n].fill(0);
 }
 
 // ---- bits of a byte
@@ -167,11 +163,9 @@ pub fn bit_set(b: u8, k: u32) -> u8
     b | (1 << k)
 }
 
-// The bit is set first, so that the difference takes it away alone. (LLVM makes one mask of both.)
 pub fn bit_clear(b: u8, k: u32) -> u8
     requires { k < 8 }
     ensures { result ≡ with_bit b k 0 }
 {
-    let m = 1 << k;
-    (b | m) - m
+    b & !(1 << k)
 }

@@ -17,7 +17,7 @@ pub returns-then-w : goal.returns-then-w
 returns-then-w c = rw (width_four _ c.if-w.true) c.word_at.ensures
 
 pub returns-then-w-eq1 : goal.returns-then-w-eq1
-returns-then-w-eq1 c = rw (width_one _ c.if-w-eq1.true, number_one) c.wide.ensures.0
+returns-then-w-eq1 c = rw (width_one _ c.if-w-eq1.true, number_one) c.from.ensures
 
 pub returns-else-w-eq1 : goal.returns-else-w-eq1
 returns-else-w-eq1 c = rw (width_two _ c.if-w.false c.if-w-eq1.false) c.half_at.ensures.0

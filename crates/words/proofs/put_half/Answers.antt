@@ -1,11 +1,7 @@
--- `words::put_half` meets its contract: a put of two bytes written out. Assumes nothing.
-use lib.ListN.{length-set}
-use native.Mathlib.Omega.{arith}
-use Rattle.words.specs.ByteLaws.{put_two}
+-- `words::put_half` meets its contract: the part of two bytes holds the number now. Assumes nothing.
+use mathlib.Core.Path.{◌∙◌}
+use Rattle.words.specs.ByteLaws.{little_two, put_part}
 use Rattle.words.proofs.put_half.Goals as goal
 
-pub bounds-s-i-2 : goal.bounds-s-i-2
-bounds-s-i-2 c = simp length-set (omega arith)
-
 pub returns : goal.returns
-returns c = rw put_two (cc)
+returns c = put_part _ _ _ c.args.v _ (c.copy_from_slice.ensures.after ∙ c.to_le_bytes.ensures ∙ little_two c.args.v) c.requires
