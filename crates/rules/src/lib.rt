@@ -19,7 +19,7 @@ pub enum Verdict {
 }
 
 // A record of the file: byte 0, bytes 1 to 3, bytes 4 to 7.
-#[derive(Clone, Copy)]
+#[derive(Clone, Copy, Default)]
 pub struct Record {
     pub kind: u8,
     pub a: u8,

@@ -1,11 +1,12 @@
 -- Laws of a file's records: past the file they are zero. Assumes nothing.
-use Rattle.std.specs.Prelude.{◌≡◌, length}
+use Rattle.std.specs.Prelude.{◌≡◌, length, get_or, min}
 use Rattle.std.proofs.Math.Path.{refl, ap}
+use Rattle.std.proofs.Common.{◌∙◌}
 use Prim.Native.Nat.{ℕ, zero, suc, ◌+◌, ◌/◌, ◌<◌, ◌≤◌}
 use native.Mathlib.Omega.{arith}
-use Rattle.words.specs.Bytes.{Bytes, AllBytes, byte_at, number}
-use Rattle.words.specs.ByteLaws.{byte_past, number_past}
-use Rattle.rules.specs.Limits.{block_records, record_bytes}
+use Rattle.words.specs.Bytes.{Bytes, AllBytes, byte_at, number, list_of}
+use Rattle.words.specs.ByteLaws.{byte_past, number_past, get_d_list_of}
+use Rattle.rules.specs.Limits.{block_records, record_bytes, most_entries}
 use Rattle.rules.specs.File.{blocks, record_start, record_of, entry_of}
 use Rattle.rules.specs.declared.Record.{Record}
 
@@ -72,12 +73,16 @@ pub byte_of_law : (f : Bytes) (r : ℕ) → AllBytes f → (record_of f r).b < 2
 unfolding record_of
 byte_of_law f r all = all (record_start r + 2)
 
--- from entry 6 on, the last byte
-pub entry_last : (x : Record) (i : ℕ) → 6 ≤ i → x.d / 16777216 ≡ entry_of x i
-entry_last x zero h = absurd (omega arith)
-entry_last x (suc zero) h = absurd (omega arith)
-entry_last x (suc (suc zero)) h = absurd (omega arith)
-entry_last x (suc (suc (suc zero))) h = absurd (omega arith)
-entry_last x (suc (suc (suc (suc zero)))) h = absurd (omega arith)
-entry_last x (suc (suc (suc (suc (suc zero))))) h = absurd (omega arith)
-entry_last x (suc (suc (suc (suc (suc (suc i)))))) h = refl
+-- from entry 6 on it is the last byte
+entry_last : (x : Record) (i : ℕ) → entry_of x (min i 6) ≡ entry_of x i
+entry_last x zero = refl
+entry_last x (suc zero) = refl
+entry_last x (suc (suc zero)) = refl
+entry_last x (suc (suc (suc zero))) = refl
+entry_last x (suc (suc (suc (suc zero)))) = refl
+entry_last x (suc (suc (suc (suc (suc zero))))) = refl
+entry_last x (suc (suc (suc (suc (suc (suc i)))))) = let h : min (suc (suc (suc (suc (suc (suc i)))))) 6 ≡ 6 = omega arith in rw h
+
+-- an entry by its place among the seven
+pub entry_at : (x : Record) (i : ℕ) → get_or (list_of (entry_of x) most_entries) (min i 6) 0 ≡ entry_of x i
+entry_at x i = get_d_list_of (entry_of x) most_entries (min i 6) 0 (omega arith) ∙ entry_last x i

@@ -3,6 +3,7 @@
 ghost use Rattle.std.specs.Prelude.{◌≡◌, ◌<◌, ◌^◌};
 ghost use Rattle.rules.specs.Decode.{registers_at, code_at, after};
 
+use crate::file::{byte_at, record_at, regions_of};
 use rules::limits::{CALL, MOST_ENTRIES};
 
 // The first record 9 of the function with record 7 at h.
@@ -10,13 +11,8 @@ pub fn registers_at(f: &[u8], h: usize) -> usize
     requires { h < 2 ^ 32 }
     ensures { result ≡ registers_at f.now h }
 {
-    let a = crate::file::byte_at(f, h, 1);
-    let b = crate::file::byte_at(f, h, 2);
-    if 0 < words::wide(a) + words::wide(b) {
-        h + 2
-    } else {
-        h + 1
-    }
+    let x = record_at(f, h);
+    if 0 < regions_of(x) { h + 2 } else { h + 1 }
 }
 
 // Its first instruction.
@@ -24,9 +20,9 @@ pub fn code_at(f: &[u8], h: usize) -> usize
     requires { h < 2 ^ 32 }
     ensures { result ≡ code_at f.now h }
 {
-    let x = crate::file::record_at(f, h);
+    let x = record_at(f, h);
     let from = registers_at(f, h);
-    from + (x.c as usize + (MOST_ENTRIES - 1)) / MOST_ENTRIES
+    from + usize::from(x.c).div_ceil(MOST_ENTRIES)
 }
 
 // The record after the instruction at r: a 33 has its 35 behind it.
@@ -34,6 +30,6 @@ pub fn after(f: &[u8], r: usize) -> usize
     requires { r < 2 ^ 32 }
     ensures { result ≡ after f.now r }
 {
-    let kind = crate::file::byte_at(f, r, 0);
+    let kind = byte_at(f, r, 0);
     if kind == CALL { r + 2 } else { r + 1 }
 }

@@ -10,18 +10,7 @@ use rules::{Phase, Walk};
 pub fn in_code(p: Phase) -> bool
     ensures { result ≡ in_code p }
 {
-    match p {
-        Phase::Terms => false,
-        Phase::Names => false,
-        Phase::Fields => false,
-        Phase::Functions => false,
-        Phase::Regions => false,
-        Phase::Registers => false,
-        Phase::Code => true,
-        Phase::Arguments => false,
-        Phase::Filler => false,
-        Phase::Broken => false,
-    }
+    matches!(p, Phase::Code)
 }
 
 // An instruction of this kind, with so many to come, is counted and no more: it is no call, and not the last.
@@ -37,19 +26,15 @@ pub fn run_end(f: &[u8], n: usize, w: Walk, from: usize) -> usize
     requires fact_2 { from < n }
     ensures { Run f.now n w from result }
 {
-    let p = w.phase;
-    if !in_code(p) {
+    if !in_code(w.phase) {
         return from;
     }
     let mut left = w.left;
-    let mut r = from;
-    while r + 1 < n {
-        let kind = crate::file::byte_at(f, r, 0);
-        if !counted_only(kind, left) {
+    for r in from..n - 1 {
+        if !counted_only(crate::file::byte_at(f, r, 0), left) {
             return r;
         }
-        left = left - 1;
-        r = r + 1;
+        left -= 1;
     }
-    r
+    n - 1
 }

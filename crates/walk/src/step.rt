@@ -16,13 +16,13 @@ use rules::{Phase, Record, Walk};
 pub fn is_term(kind: u8) -> bool
     ensures { result ≡ is_term kind }
 {
-    (INTEGER <= kind) & (kind <= STRUCT)
+    matches!(kind, INTEGER..=STRUCT)
 }
 
 pub fn is_instruction(kind: u8) -> bool
     ensures { result ≡ is_instruction kind }
 {
-    (FIRST_ARITHMETIC <= kind) & (kind <= LAST_CONTROL)
+    matches!(kind, FIRST_ARITHMETIC..=LAST_CONTROL)
 }
 
 // The same counts, waiting for p, of which n are to come.
@@ -31,15 +31,8 @@ pub fn to(w: Walk, p: Phase, n: usize) -> Walk
 {
     Walk {
         phase: p,
-        terms: w.terms,
-        names: w.names,
-        functions: w.functions,
-        head: w.head,
-        regions: w.regions,
-        registers: w.registers,
-        instructions: w.instructions,
         left: n,
-        callee: w.callee,
+        ..w
     }
 }
 
@@ -85,18 +78,16 @@ fn headed(w: Walk, x: Record, r: usize) -> Walk
     ensures { result ≡ headed w x r }
 {
     let regions = regions_of(x);
-    let instructions = instructions_of(x);
     Walk {
         phase: Phase::Regions,
-        terms: w.terms,
-        names: w.names,
         functions: w.functions + 1,
         head: r,
         regions,
-        registers: x.c as usize,
-        instructions,
+        registers: usize::from(x.c),
+        instructions: instructions_of(x),
         left: regions,
         callee: 0,
+        ..w
     }
 }
 
@@ -116,14 +107,8 @@ fn to_term(w: Walk) -> Walk
     Walk {
         phase: Phase::Terms,
         terms: w.terms + 1,
-        names: w.names,
-        functions: w.functions,
-        head: w.head,
-        regions: w.regions,
-        registers: w.registers,
-        instructions: w.instructions,
         left: 0,
-        callee: w.callee,
+        ..w
     }
 }
 
@@ -133,15 +118,9 @@ fn named(w: Walk, x: Record) -> Walk
 {
     Walk {
         phase: Phase::Fields,
-        terms: w.terms,
         names: w.names + 1,
-        functions: w.functions,
-        head: w.head,
-        regions: w.regions,
-        registers: w.registers,
-        instructions: w.instructions,
-        left: x.b as usize,
-        callee: w.callee,
+        left: usize::from(x.b),
+        ..w
     }
 }
 
@@ -161,15 +140,8 @@ fn called(w: Walk, x: Record) -> Walk
 {
     Walk {
         phase: Phase::Arguments,
-        terms: w.terms,
-        names: w.names,
-        functions: w.functions,
-        head: w.head,
-        regions: w.regions,
-        registers: w.registers,
-        instructions: w.instructions,
-        left: w.left,
-        callee: x.b as usize,
+        callee: usize::from(x.b),
+        ..w
     }
 }
 
@@ -269,18 +241,7 @@ fn in_arguments(w: Walk, x: Record, r: usize) -> Walk
 pub fn in_filler(p: Phase) -> bool
     ensures { result ≡ in_filler p }
 {
-    match p {
-        Phase::Terms => false,
-        Phase::Names => false,
-        Phase::Fields => false,
-        Phase::Functions => false,
-        Phase::Regions => false,
-        Phase::Registers => false,
-        Phase::Code => false,
-        Phase::Arguments => false,
-        Phase::Filler => true,
-        Phase::Broken => false,
-    }
+    matches!(p, Phase::Filler)
 }
 
 // Record r, which is x, is read.
@@ -288,8 +249,7 @@ pub fn next(w: Walk, x: Record, r: usize) -> Walk
     requires { Room w }
     ensures { result ≡ next w x r }
 {
-    let p = w.phase;
-    match p {
+    match w.phase {
         Phase::Terms => in_terms(w, x, r),
         Phase::Names => to_name(w, x, r),
         Phase::Fields => in_fields(w, x, r),
@@ -298,7 +258,6 @@ pub fn next(w: Walk, x: Record, r: usize) -> Walk
         Phase::Registers => in_registers(w, x, r),
         Phase::Code => in_code(w, x, r),
         Phase::Arguments => in_arguments(w, x, r),
-        Phase::Filler => w,
-        Phase::Broken => w,
+        Phase::Filler | Phase::Broken => w,
     }
 }

@@ -6,6 +6,9 @@ ghost use Rattle.rules.specs.Records.{head_of};
 ghost use Rattle.walk.specs.Scan.{callees};
 ghost use Rattle.walk.specs.Tables.{tables_of, starts_of, no_tables, instructions_below};
 
+use crate::file::{count, instructions_of, record_at};
+use crate::run::run_end;
+use crate::step::{in_filler, next, start, to};
 use rules::limits::CALLEES;
 use rules::{Record, Walk};
 
@@ -20,35 +23,34 @@ pub struct Tables {
 pub fn no_tables() -> Tables
     ensures { result ≡ no_tables }
 {
-    let w = crate::step::start();
-    let starts = [0usize; CALLEES];
-    Tables { walk: w, starts }
+    Tables {
+        walk: start(),
+        starts: [0; CALLEES],
+    }
 }
 
-// One pass over the records, up to the filler.
+// One pass over the records, up to the filler. (It passes instructions in a row at once: the index goes on by more than one.)
 pub fn tables_of(f: &[u8]) -> Tables
     ensures { result ≡ tables_of f.now }
 {
-    let n = crate::file::count(f);
-    let mut w = crate::step::start();
-    let mut starts = [0usize; CALLEES];
+    let n = count(f);
+    let mut w = start();
+    let mut starts = [0; CALLEES];
     let mut r = 0;
     while r < n {
-        let p = w.phase;
-        if crate::step::in_filler(p) {
+        if in_filler(w.phase) {
             return Tables { walk: w, starts };
         }
-        let e = crate::run::run_end(f, n, w, r);
-        w = crate::step::to(w, p, w.left - (e - r));
+        let e = run_end(f, n, w, r);
+        w = to(w, w.phase, w.left - (e - r));
         r = e;
-        let x = crate::file::record_at(f, r);
-        let v = crate::step::next(w, x, r);
+        let v = next(w, record_at(f, r), r);
         let g = w.functions;
         if (g < CALLEES) & (g < v.functions) {
             starts[g] = r;
         }
         w = v;
-        r = r + 1;
+        r += 1;
     }
     Tables { walk: w, starts }
 }
@@ -68,8 +70,7 @@ pub fn head_of(f: &[u8], starts: &[usize; CALLEES], g: usize) -> Record
     requires fact_2 { g < callees }
     ensures { result ≡ head_of f.now (whole f.now) g }
 {
-    let r = start_of(f, starts, g);
-    crate::file::record_at(f, r)
+    record_at(f, start_of(f, starts, g))
 }
 
 // The instructions of the first n functions.
@@ -79,11 +80,8 @@ pub fn instructions(f: &[u8], starts: &[usize; CALLEES], n: usize) -> usize
     ensures { result ≡ instructions_below f.now n }
 {
     let mut sum = 0;
-    let mut g = 0;
-    while g < n {
-        let x = head_of(f, starts, g);
-        sum = sum + crate::file::instructions_of(x);
-        g = g + 1;
+    for g in 0..n {
+        sum += instructions_of(head_of(f, starts, g));
     }
     sum
 }

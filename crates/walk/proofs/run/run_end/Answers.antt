@@ -1,6 +1,6 @@
 -- `walk::run::run_end` meets its contract: every record passed is counted and no more. Assumes nothing.
-use mathlib.Core.Path.{refl, sym, ap, ◌∙◌}
-use Prim.Native.Nat.{◌<◌}
+use mathlib.Core.Path.{◌≡◌, refl, sym, ap, ◌∙◌}
+use Prim.Native.Nat.{◌<◌, ◌-◌}
 use native.Mathlib.Omega.{arith}
 use borrow.Author.Tests.{ltb-true}
 use lib.Dec.{ltb}
@@ -21,9 +21,6 @@ loop-r-init c =
       sym (ap (λ (w : Walk). w.phase) same) ∙ in_code_law _ (sym c.in_code.ensures ∙ c.if-not-in_code.false),
     )
 
-pub overflow_add-r : goal.overflow_add-r
-overflow_add-r c = omega (arith, c.loop-r.invariant.0.below)
-
 pub returns-then-not-counted_only : goal.returns-then-not-counted_only
 returns-then-not-counted_only c = rw c.requires.fact_1 c.loop-r.invariant.0
 
@@ -33,11 +30,11 @@ overflow_sub-left c = let h : 1 < c.loop-r.left = ltb-true 1 _ (both (ltb 1 c.lo
 pub loop-r-preserved : goal.loop-r-preserved
 loop-r-preserved c =
     let inv = c.loop-r.invariant in
-    let counted = sym (rw (c.byte_at-kind.ensures, inv.1) at c.counted_only.ensures) ∙ c.if-not-counted_only.false in (
-      run_more _ inv.0 inv.2 c.loop-r-test.true counted,
+    let counted = sym (rw (c.byte_at.ensures, inv.1) at c.counted_only.ensures) ∙ c.if-not-counted_only.false in (
+      run_more _ inv.0 inv.2 (omega arith) counted,
       omega (arith, inv.0.from),
       inv.2,
     )
 
 pub returns : goal.returns
-returns c = rw c.requires.fact_1 c.loop-r.invariant.0
+returns c = let e : c.loop-r.r ≡ c.args.n - 1 = omega arith in rw (c.requires.fact_1, ← e) c.loop-r.invariant.0

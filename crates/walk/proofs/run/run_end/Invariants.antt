@@ -7,6 +7,3 @@ use Rattle.walk.proofs.run.run_end.Given as goal
 
 abbrev pub invariant-loop-r : goal.invariant-loop-r
 invariant-loop-r l = Run l.f l.n (scan l.f l.from).walk l.from l.r × (l.left ≡ (scan l.f l.from).walk.left - (l.r - l.from)) × ((scan l.f l.from).walk.phase ≡ Code)
-
-abbrev pub decreases-loop-r : goal.decreases-loop-r
-decreases-loop-r l = l.n - l.r

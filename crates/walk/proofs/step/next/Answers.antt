@@ -1,4 +1,5 @@
 -- `walk::step::next` meets its contract: one function for each phase. Assumes nothing.
+use mathlib.Core.Logic.{inl, inr}
 use mathlib.Core.Path.{sym, ◌∙◌}
 use Rattle.rules.specs.Walk.{step}
 use Rattle.walk.specs.Scan.{next_in}
@@ -32,8 +33,4 @@ returns-in-Arguments c = c.in_arguments.ensures ∙ sym (next_in _ _ _ c.in-Argu
 
 pub returns-in-Filler : goal.returns-in-Filler
 unfolding step
-returns-in-Filler c = sym (next_in _ _ _ c.in-Filler.is)
-
-pub returns-in-Broken : goal.returns-in-Broken
-unfolding step
-returns-in-Broken c = sym (next_in _ _ _ c.in-Broken.is)
+returns-in-Filler c = elim c.in-Filler.is [ inl e ↦ sym (next_in _ _ _ e) | inr e ↦ sym (next_in _ _ _ e) ]

@@ -4,4 +4,4 @@ use Rattle.walk.proofs.tables.head_of.Goals as goal
 
 pub returns : goal.returns
 unfolding start_of
-returns c = rw c.start_of-r.ensures at c.record_at.ensures
+returns c = rw c.start_of.ensures at c.record_at.ensures

@@ -5,16 +5,13 @@ use Rattle.walk.specs.Tables.{instructions_none, instructions_more}
 use Rattle.walk.proofs.tables.instructions.Goals as goal
 
 pub loop-g-init : goal.loop-g-init
-loop-g-init c = (omega arith, instructions_none _, omega arith)
-
-pub head_of-x-requires : goal.head_of-x-requires
-head_of-x-requires c = record { fact_1 = c.requires.fact_1; fact_2 = omega arith }
+loop-g-init c = (instructions_none _, omega arith)
 
 pub overflow_add-sum : goal.overflow_add-sum
 overflow_add-sum c = omega (arith, c.instructions_of-sum.ensures.1)
 
 pub loop-g-preserved : goal.loop-g-preserved
-loop-g-preserved c = (omega arith, rw (instructions_more, c.instructions_of-sum.ensures.0, c.head_of-x.ensures, c.loop-g.invariant.1), omega (arith, c.instructions_of-sum.ensures.1))
+loop-g-preserved c = (rw (instructions_more, c.instructions_of-sum.ensures.0, c.head_of.ensures, c.loop-g.invariant.0), omega (arith, c.instructions_of-sum.ensures.1))
 
 pub returns : goal.returns
-returns c = let e : c.loop-g.g ≡ c.args.n = omega arith in rw e at c.loop-g.invariant.1
+returns c = let e : c.loop-g.g ≡ c.args.n = omega arith in rw e at c.loop-g.invariant.0

@@ -1,10 +1,7 @@
 use mathlib.Core.Path.{◌≡◌}
-use Prim.Native.Nat.{◌≤◌, ◌*◌, ◌-◌}
+use Prim.Native.Nat.{◌≤◌, ◌*◌}
 use Rattle.walk.specs.Tables.{instructions_below}
 use Rattle.walk.proofs.tables.instructions.Given as goal
 
 abbrev pub invariant-loop-g : goal.invariant-loop-g
-invariant-loop-g l = (l.g ≤ l.n) × (l.sum ≡ instructions_below l.f l.g) × (l.sum ≤ 65536 * l.g)
-
-abbrev pub decreases-loop-g : goal.decreases-loop-g
-decreases-loop-g l = l.n - l.g
+invariant-loop-g l = (l.sum ≡ instructions_below l.f l.g) × (l.sum ≤ 65536 * l.g)

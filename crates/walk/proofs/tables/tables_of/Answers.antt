@@ -53,7 +53,7 @@ loop-r-preserved c =
     let h : c.run_end-e.result < c.count-n.result = c.run_end-e.ensures.below in
     let hw = c.to-w.ensures ∙ c.run_end-e.ensures.walk in
     let hh = c.loop-r.invariant.2 ∙ ap entries (sym c.run_end-e.ensures.starts) in
-    let hv = step_walk _ _ hw c.record_at-x.ensures c.next-v.ensures in (
+    let hv = step_walk _ _ hw c.record_at.ensures c.next-v.ensures in (
       omega arith,
       hv,
       elim c.if-g-v.branch [ then-g-v s ↦ s.starts-is ∙ step_start _ (λ i. omega (arith, c.type_inv.f i)) _ hw hv hh s.if-g-v.true | else-g-v s ↦ s.starts-is ∙ step_same _ (λ i. omega (arith, c.type_inv.f i)) _ hw hv hh s.if-g-v.false ],
