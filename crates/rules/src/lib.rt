@@ -29,7 +29,7 @@ pub struct Record {
 }
 
 // The pages that a machine may own: of pages 1 to 63 all but so many at the low end and so many at the high end.
-#[derive(Clone, Copy)]
+#[derive(Clone, Copy, Default)]
 pub struct PageRange {
     pub below: u8,
     pub above: u8,

@@ -166,10 +166,8 @@ pub fn set_marks(s: &mut [u8], p: u32, j: u32, c: u32)
     requires { (length s.old ≡ state_bytes) × ((p < pages) × (j + c ≤ page_bytes)) }
     ensures { s.new ≡ written (put_marks s.old p j c) s.old }
 {
-    let mut i = 0;
-    while i < c {
+    for i in 0..c {
         set_mark(s, p, j + i);
-        i += 1;
     }
 }
 

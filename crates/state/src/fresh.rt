@@ -13,11 +13,8 @@ pub fn first_arguments(arguments: &[u8], s: &mut [u8], n: usize)
     requires { (length s.old ≡ state_bytes) × (n ≤ most_entries) × (length arguments.now ≡ 4 * n) }
     ensures { s.new ≡ put_registers 0 (arguments_of arguments.now) n s.old }
 {
-    let mut i = 0;
-    while i < n {
-        let x = word_at(arguments, 4 * i);
-        put_register(s, 0, i as u32, x);
-        i += 1;
+    for i in 0..n {
+        put_register(s, 0, i as u32, word_at(arguments, 4 * i));
     }
 }
 
@@ -26,9 +23,7 @@ pub fn first_regions(s: &mut [u8], n: u32)
     requires { (length s.old ≡ state_bytes) × (n ≤ most_regions) }
     ensures { s.new ≡ put_regions 0 0 itself n s.old }
 {
-    let mut i: u32 = 0;
-    while i < n {
+    for i in 0..n {
         put_region(s, 0, RegionVariable(i), LiveRegion(i as u8));
-        i += 1;
     }
 }

@@ -5,28 +5,22 @@ ghost use Rattle.rules.specs.State.{all_pages, low_page, end_page};
 
 use crate::Machine;
 use rules::PageRange;
-use words::wide;
 
 // Document 01's machine may own all but page 0.
 pub fn all_pages() -> PageRange
     ensures { result ≡ all_pages }
 {
-    PageRange { below: 0, above: 0 }
+    PageRange::default()
 }
 
 pub fn low_page(range: PageRange) -> u32
     ensures { result ≡ low_page range }
 {
-    Machine::FIRST_PAGE + wide(range.below)
+    Machine::FIRST_PAGE + u32::from(range.below)
 }
 
 pub fn end_page(range: PageRange) -> u32
     ensures { (result ≡ end_page range) × (result ≤ pages) }
 {
-    let above = wide(range.above);
-    if above < Machine::PAST_PAGE {
-        Machine::PAST_PAGE - above
-    } else {
-        0
-    }
+    Machine::PAST_PAGE.saturating_sub(u32::from(range.above))
 }

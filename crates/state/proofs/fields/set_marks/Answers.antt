@@ -6,14 +6,13 @@ use borrow.Author.Rules.{rules}
 use Rattle.state.proofs.fields.set_marks.Goals as goal
 
 pub loop-i-init : goal.loop-i-init
-loop-i-init c = (c.requires.0, omega arith, marks_first _ _ _ _)
+loop-i-init c = (c.requires.0, marks_first _ _ _ _)
 
 pub loop-i-preserved : goal.loop-i-preserved
 loop-i-preserved c = (
   search rules,
-  omega arith,
-  marks_next _ _ _ _ _ c.loop-i.i c.loop-i-test.true c.set_mark.ensures ∙ c.loop-i.invariant.2,
+  marks_next _ _ _ _ _ c.loop-i.i c.loop-i-test.true c.set_mark.ensures ∙ c.loop-i.invariant.1,
 )
 
 pub returns : goal.returns
-returns c = sym (marks_last _ _ _ _ c.loop-i.i (omega arith)) ∙ c.loop-i.invariant.2
+returns c = sym (marks_last _ _ _ _ c.loop-i.i (omega arith)) ∙ c.loop-i.invariant.1

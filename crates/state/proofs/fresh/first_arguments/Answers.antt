@@ -7,10 +7,10 @@ use borrow.Author.Rules.{rules}
 use Rattle.state.proofs.fresh.first_arguments.Goals as goal
 
 pub loop-i-init : goal.loop-i-init
-loop-i-init c = (c.requires.0, omega arith, registers_none _ _ _)
+loop-i-init c = (c.requires.0, registers_none _ _ _)
 
 pub loop-i-preserved : goal.loop-i-preserved
-loop-i-preserved c = (search rules, omega arith, arguments_more _ _ _ _ _ _ c.loop-i.invariant.2 c.word_at-x.ensures c.put_register.ensures)
+loop-i-preserved c = (search rules, arguments_more _ _ _ _ _ _ c.loop-i.invariant.1 c.word_at.ensures c.put_register.ensures)
 
 pub returns : goal.returns
-returns c = let e : c.loop-i.i ≡ c.args.n = omega arith in rw e at c.loop-i.invariant.2
+returns c = let e : c.loop-i.i ≡ c.args.n = omega arith in rw e at c.loop-i.invariant.1

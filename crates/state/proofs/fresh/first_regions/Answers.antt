@@ -7,10 +7,10 @@ use borrow.Author.Rules.{rules}
 use Rattle.state.proofs.fresh.first_regions.Goals as goal
 
 pub loop-i-init : goal.loop-i-init
-loop-i-init c = (c.requires.0, omega arith, regions_none _ _ _ _)
+loop-i-init c = (c.requires.0, regions_none _ _ _ _)
 
 pub loop-i-preserved : goal.loop-i-preserved
-loop-i-preserved c = (search rules, omega arith, locals_more _ _ _ _ c.loop-i.invariant.2 c.put_region.ensures)
+loop-i-preserved c = (search rules, locals_more _ _ _ _ c.loop-i.invariant.1 c.put_region.ensures)
 
 pub returns : goal.returns
-returns c = let e : c.loop-i.i ≡ c.args.n = omega arith in rw e at c.loop-i.invariant.2
+returns c = let e : c.loop-i.i ≡ c.args.n = omega arith in rw e at c.loop-i.invariant.1
