@@ -14,8 +14,8 @@ use Rattle.rules.specs.Walk.{whole}
 use Rattle.walk.specs.Tables.{instructions_below, instructions_all}
 use Rattle.functions.specs.Functions.{function_at, function_at_law, place_in, place_in_law}
 use Rattle.rules.specs.Verdict.{term_stage, struct_stage, function_stage, instruction_stage, last_stage, module_stages, accepted_as, module_rules}
-use Rattle.rules.specs.declared.Verdict.{Verdict}
-use Rattle.rules.specs.declared.Verdict.TheVariants as verdicts
+use Rattle.rules.specs.Refusals.{Verdict}
+use Rattle.rules.specs.Refusals as verdicts
 use Rattle.typing.specs.Stages.{verdict_append}
 use Rattle.framing.specs.Outcome.{and_then, verdict_outcome}
 use Rattle.instructions.specs.Scan.{typed_from}

@@ -12,8 +12,8 @@ use Rattle.rules.specs.Stages.{Stage, failure, refusal, verdict}
 use Rattle.rules.specs.File.{blocks, length_right, block_test, length_stage, block_stage}
 use Rattle.rules.specs.Verdict.{record_rules, verdict_of}
 use Rattle.typing.specs.Stages.{Passes, AllPass}
-use Rattle.rules.specs.declared.Verdict.{Verdict}
-use Rattle.rules.specs.declared.Verdict.TheVariants as verdicts
+use Rattle.rules.specs.Refusals.{Verdict}
+use Rattle.rules.specs.Refusals as verdicts
 use Rattle.framing.specs.declared.Outcome.{Outcome}
 use Rattle.framing.specs.declared.Outcome.TheVariants.{Passed, Refused}
 

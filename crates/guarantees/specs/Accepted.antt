@@ -5,8 +5,7 @@ use Rattle.std.proofs.Common.{sym, ap, ◌∙◌, subst, arith}
 use Rattle.words.specs.Bytes.{Bytes}
 use Rattle.rules.specs.Decode.{module_of}
 use Rattle.rules.specs.Verdict.{instructions, verdict_of, IsAccepted}
-use Rattle.rules.specs.declared.Verdict.{Verdict}
-use Rattle.rules.specs.declared.Verdict.TheVariants.{Accepted, Refused}
+use Rattle.rules.specs.Refusals.{Verdict, Accepted, Refused}
 use Rattle.typing.specs.Walk.{Fits}
 use Rattle.typing.specs.Accepted.{framed, records_fit, counts}
 use Rattle.walk.specs.Tables.{tables_of}

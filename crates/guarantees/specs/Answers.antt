@@ -13,8 +13,7 @@ use Rattle.rules.specs.Run.{Trace, run_of}
 use Rattle.rules.specs.StateTest.{dec_passes}
 use Rattle.rules.specs.Host.{Outcome, Went, refused, went, no_answer, on_verdict, unless, go_at, ranged}
 use Rattle.rules.specs.declared.PageRange.{PageRange}
-use Rattle.rules.specs.declared.Verdict.{Verdict}
-use Rattle.rules.specs.declared.Verdict.TheVariants.{Accepted, Refused}
+use Rattle.rules.specs.Refusals.{Verdict, Accepted, Refused}
 use Rattle.soundness.specs.Demand3.{went_is}
 use Rattle.soundness.specs.ForCode.{accepted_moves}
 

@@ -4,8 +4,7 @@ use Rattle.std.proofs.Common.{sym, ap, ◌∙◌}
 use Rattle.words.specs.Bytes.{Bytes}
 use Rattle.rules.specs.Verdict.{verdict_of, IsAccepted}
 use Rattle.rules.specs.Host.{on_verdict}
-use Rattle.rules.specs.declared.Verdict.{Verdict}
-use Rattle.rules.specs.declared.Verdict.TheVariants.{Refused}
+use Rattle.rules.specs.Refusals.{Verdict, Refused}
 use Rattle.typing.specs.Accepted.{counts}
 
 module _ {B : Type 0} (refuse : ℕ → ℕ → B) (f : Bytes) (b : B) where

@@ -13,8 +13,8 @@ use Rattle.rules.specs.StateTest.{Passes, dec_passes}
 use Rattle.rules.specs.Verdict.{verdict_of, IsAccepted}
 use Rattle.rules.specs.Host as rules
 use Rattle.rules.specs.declared.PageRange.{PageRange}
-use Rattle.rules.specs.declared.Verdict.{Verdict}
-use Rattle.rules.specs.declared.Verdict.TheVariants as verdicts
+use Rattle.rules.specs.Refusals.{Verdict}
+use Rattle.rules.specs.Refusals as verdicts
 use Rattle.soundness.specs.Demand3.{ranged_range}
 use Rattle.soundness.specs.ForCode.{go_went}
 use Rattle.turns.specs.Turns.{Came}

@@ -18,8 +18,8 @@ use Rattle.rules.specs.StateTest.{dec_passes}
 use Rattle.rules.specs.Verdict.{verdict_of, IsAccepted}
 use Rattle.rules.specs.Host as rules
 use Rattle.rules.specs.declared.PageRange.{PageRange}
-use Rattle.rules.specs.declared.Verdict.{Verdict}
-use Rattle.rules.specs.declared.Verdict.TheVariants as verdicts
+use Rattle.rules.specs.Refusals.{Verdict}
+use Rattle.rules.specs.Refusals as verdicts
 use Rattle.soundness.specs.ForCode.{object_inside}
 use Rattle.objects.specs.Homes.{IsPart, object_around}
 use Rattle.objects.specs.declared.Area.{Area}

@@ -10,8 +10,8 @@ use Rattle.rules.specs.StateTest.{dec_passes}
 use Rattle.rules.specs.Verdict.{verdict_of, IsAccepted}
 use Rattle.rules.specs.Host as rules
 use Rattle.rules.specs.declared.PageRange.{PageRange}
-use Rattle.rules.specs.declared.Verdict.{Verdict}
-use Rattle.rules.specs.declared.Verdict.TheVariants as verdicts
+use Rattle.rules.specs.Refusals.{Verdict}
+use Rattle.rules.specs.Refusals as verdicts
 use Rattle.guarantees.specs.Verdicts.{on_refused, on_accepted}
 use Rattle.host.specs.declared.test.Tested.{Tested}
 use Rattle.host.specs.declared.test.Tested.TheVariants as answers

@@ -10,8 +10,7 @@ use Rattle.rules.specs.Verdict.{verdict_of}
 use Rattle.rules.specs.Host.{ended, stopped, running, Went, refused, went, Opened, not_opened, opened, on_verdict, unless, first_state, open_of, open_at}
 use Rattle.rules.specs.CasesFile as files
 use Rattle.rules.specs.CasesMachine as machines
-use Rattle.rules.specs.declared.Verdict.{Verdict}
-use Rattle.rules.specs.declared.Verdict.TheVariants.{Accepted, Refused}
+use Rattle.rules.specs.Refusals.{Verdict, Accepted, Refused}
 use Rattle.soundness.specs.Worked.{same_file, worked_goes}
 use Rattle.lines.specs.Lines.{digits_with, decimal, line_of, verdict_line, went_line, second_line, printed}
 

@@ -5,8 +5,7 @@ use Rattle.words.specs.Bytes.{Bytes}
 use Rattle.rules.specs.Limits.{output_bytes, state_bytes}
 use Rattle.rules.specs.Verdict.{verdict_of}
 use Rattle.rules.specs.Host.{ended, stopped, running, Went, refused, went, no_answer, Opened, not_opened, opened, on_verdict, go_of, open_of}
-use Rattle.rules.specs.declared.Verdict.{Verdict}
-use Rattle.rules.specs.declared.Verdict.TheVariants.{Accepted, Refused}
+use Rattle.rules.specs.Refusals.{Verdict, Accepted, Refused}
 
 -- ---- a line
 

@@ -13,8 +13,8 @@ use Rattle.rules.specs.Verdict.{verdict_of, IsAccepted}
 use Rattle.rules.specs.Host as rules
 use Rattle.rules.specs.declared.PageRange.{PageRange}
 use Rattle.rules.specs.declared.Record.{Record}
-use Rattle.rules.specs.declared.Verdict.{Verdict}
-use Rattle.rules.specs.declared.Verdict.TheVariants as verdicts
+use Rattle.rules.specs.Refusals.{Verdict}
+use Rattle.rules.specs.Refusals as verdicts
 use Rattle.typing.specs.Accepted.{accepted}
 use Rattle.guarantees.specs.Verdicts.{on_refused, on_accepted}
 use Rattle.opening.specs.declared.Opened.{Opened}

@@ -6,8 +6,7 @@ use Rattle.words.specs.FirstLaws.{sum_below_bound}
 use Rattle.rules.specs.Limits.{most_instructions, most_functions}
 use Rattle.rules.specs.Decode.{module_of}
 use Rattle.rules.specs.Verdict.{verdict_of, instructions}
-use Rattle.rules.specs.declared.Verdict.{Verdict}
-use Rattle.rules.specs.declared.Verdict.TheVariants.{Accepted, Refused}
+use Rattle.rules.specs.Refusals.{Verdict, Accepted, Refused}
 use Rattle.typing.specs.Accepted.{accepted}
 use Rattle.guarantees.specs.Accepted.{says_accepted, counts_are}
 

@@ -9,7 +9,7 @@ use Rattle.rules.specs.File.{blocks, length_right, block_stage}
 use Rattle.rules.specs.Stages.{verdict}
 use Rattle.rules.specs.Verdict.{verdict_of, record_rules}
 use Rattle.rules.specs.Host.{Went, refused, Opened, not_opened, opened, on_verdict, go_of, open_of, go_at}
-use Rattle.rules.specs.declared.Verdict.TheVariants.{Refused}
+use Rattle.rules.specs.Refusals.{Refused}
 use Rattle.lines.specs.Lines.{verdict_line, went_line, second_line, printed}
 use Rattle.lines.specs.Cases.{refused_alone}
 

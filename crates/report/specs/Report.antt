@@ -6,8 +6,8 @@ use Rattle.words.specs.Bytes.{Bytes}
 use Rattle.rules.specs.Limits.{state_bytes, output_bytes}
 use Rattle.rules.specs.Verdict.{verdict_of}
 use Rattle.rules.specs.Host as rules
-use Rattle.rules.specs.declared.Verdict.{Verdict}
-use Rattle.rules.specs.declared.Verdict.TheVariants as verdicts
+use Rattle.rules.specs.Refusals.{Verdict}
+use Rattle.rules.specs.Refusals as verdicts
 use Rattle.opening.specs.Opening.{opened_meant, OpenedBy}
 use Rattle.host.specs.Going.{went_meant, WentBy}
 use Rattle.opening.specs.declared.Opened.{Opened}

@@ -19,7 +19,7 @@ use Rattle.rules.specs.Host.{outcome_of, went_of, first_register, first_at}
 use Rattle.rules.specs.CaseStates.{in_main}
 use Rattle.rules.specs.CasesFile.{largest_term, byte_more, agrees}
 use Rattle.rules.specs.Cases.{trace_from, left, states, goes, BudgetZero, Table}
-use Rattle.rules.specs.declared.Verdict.TheVariants.{Accepted, Refused}
+use Rattle.rules.specs.Refusals.{Accepted, Refused}
 
 -- of the table of files, C3's two
 pub largest_accepted : verdict_of largest_term ≡ Accepted 4 0 1 1

@@ -23,7 +23,7 @@ use Rattle.rules.specs.Walk.{to_code, to_registers, opened, done, to_function, t
 use Rattle.rules.specs.WellTyped.{dec_counts, dec_term, dec_struct, scope_of, dec_function, dec_entry, dec_last}
 use Rattle.rules.specs.CaseStates.{module_with, to, named}
 use Rattle.rules.specs.Table.{Case, case, Agree, agree}
-use Rattle.rules.specs.declared.Verdict.TheVariants.{Accepted, Refused}
+use Rattle.rules.specs.Refusals.{Accepted, Refused}
 
 -- ---- flat types
 

@@ -21,8 +21,7 @@ use Rattle.rules.specs.Decode.{module_of}
 use Rattle.rules.specs.Verdict.{verdict_of}
 use Rattle.rules.specs.Host.{Part, empty_part, failed, passed, on_verdict, go_with, test_at, object_in, object_at, ranged}
 use Rattle.rules.specs.declared.PageRange.{PageRange}
-use Rattle.rules.specs.declared.Verdict.{Verdict}
-use Rattle.rules.specs.declared.Verdict.TheVariants.{Accepted, Refused}
+use Rattle.rules.specs.Refusals.{Verdict, Accepted, Refused}
 
 -- ---- the states
 

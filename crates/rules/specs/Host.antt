@@ -15,8 +15,7 @@ use Rattle.rules.specs.Step.{lowest_numbers}
 use Rattle.rules.specs.Run.{Trace, no_steps, run_of, stuck_steps}
 use Rattle.rules.specs.StateTest.{dec_passes}
 use Rattle.rules.specs.declared.PageRange.{PageRange}
-use Rattle.rules.specs.declared.Verdict.{Verdict}
-use Rattle.rules.specs.declared.Verdict.TheVariants.{Accepted, Refused}
+use Rattle.rules.specs.Refusals.{Verdict, Accepted, Refused}
 
 -- ---- answers
 

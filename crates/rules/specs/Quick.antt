@@ -14,8 +14,7 @@ use Rattle.rules.specs.Walk.{Scan, scan, next_scan, whole, start}
 use Rattle.rules.specs.Records.{record_test_with, record_test}
 use Rattle.rules.specs.Verdict.{module_rules, record_rules, verdict_of}
 use Rattle.rules.specs.declared.Walk.{Walk}
-use Rattle.rules.specs.declared.Verdict.{Verdict}
-use Rattle.rules.specs.declared.Verdict.TheVariants.{Refused}
+use Rattle.rules.specs.Refusals.{Verdict, Refused}
 
 unfoldable pub along : Bytes → (Walk → ℕ → Bool) → Scan → ℕ → ℕ → ℕ
 along f t s r zero = r

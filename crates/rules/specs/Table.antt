@@ -5,8 +5,7 @@ use mathlib.Core.Bool.{Bool, true, false, ◌&&◌}
 use Rattle.words.specs.Choose.{both}
 use Rattle.rules.specs.Verdict.{verdict_of}
 use Rattle.rules.specs.Quick.{quick_of, quick}
-use Rattle.rules.specs.declared.Verdict.{Verdict}
-use Rattle.rules.specs.declared.Verdict.TheVariants.{Accepted, Refused}
+use Rattle.rules.specs.Refusals.{Verdict, Accepted, Refused}
 
 pub record Case : Type 0 where
   pub file : List ℕ

@@ -14,8 +14,7 @@ use Rattle.rules.specs.Decode.{struct_start, module_of, start_of, instruction_at
 use Rattle.rules.specs.Typing.{Typed}
 use Rattle.rules.specs.Decision.{dec_typed}
 use Rattle.rules.specs.WellTyped.{TermOk, dec_term, StructOk, dec_struct, FunctionOk, dec_function, EntryOk, dec_entry, Last, dec_last}
-use Rattle.rules.specs.declared.Verdict.{Verdict}
-use Rattle.rules.specs.declared.Verdict.TheVariants.{Accepted, Refused}
+use Rattle.rules.specs.Refusals.{Verdict, Accepted, Refused}
 
 -- "5 has the first record of the term or name": the terms, then the names
 unfoldable pub term_test : Module → ℕ → Bool

@@ -1,21 +1,18 @@
-// The types that the definitions of specs/ and the code share, and document 01's numbers (limits).
+// The types that the definitions of specs/ and the code share, document 01's numbers (limits), and why a file or call is refused (refusal).
 #![tactic(auto)]
 
 pub mod limits;
+pub mod refusal;
 
-// The verdict on a module file. Accepted: terms, names, functions, instructions. Refused: document 01's number and place.
-#[derive(Clone, Copy)]
-pub enum Verdict {
-    Accepted {
-        terms: usize,
-        names: usize,
-        functions: usize,
-        instructions: usize,
-    },
-    Refused {
-        number: usize,
-        place: usize,
-    },
+pub use refusal::Refusal;
+
+// What an accepted module file has: so many terms, names, functions and instructions.
+#[derive(Clone, Copy, PartialEq, Eq)]
+pub struct Counts {
+    pub terms: usize,
+    pub names: usize,
+    pub functions: usize,
+    pub instructions: usize,
 }
 
 // A record of the file: byte 0, bytes 1 to 3, bytes 4 to 7.

@@ -1,4 +1,4 @@
-// The numbers of document 01 that the code shares, each once: those of the module file, of refusals and of stops. What the definitions
+// The numbers of document 01 that the code shares, each once: those of the module file and of stops. What the definitions
 // name has its name of specs/Limits.antt and specs/File.antt here. The machine's own, pages, frames, sizes and the state's layout, are
 // constants of state's Machine.
 
@@ -93,33 +93,6 @@ pub const CALL: u8 = 33;
 pub const RETURN: u8 = 34;
 
 pub const ARGUMENTS: u8 = 35;
-
-// ---- refusals
-
-// "1 file length. 2 place or count of a block, 3 its check": the check's is one more than BAD_BLOCK
-pub const BAD_FILE: usize = 1;
-
-pub const BAD_BLOCK: usize = 2;
-
-// "4 record", "5 term or name", "6 function", "7 an instruction breaks its rule", "8 the last is neither 31 nor 34"
-pub const BAD_RECORD: usize = 4;
-
-pub const BAD_TYPE: usize = 5;
-
-pub const BAD_FUNCTION: usize = 6;
-
-pub const BAD_INSTRUCTION: usize = 7;
-
-pub const BAD_END: usize = 8;
-
-// "9 arguments .. or a form over 4,096 bytes", "20 state not 24,576 bytes, or output not 4,096", "21 state test fails", "22 already ended or stopped"
-pub const BAD_INPUT: usize = 9;
-
-pub const BAD_LENGTH: usize = 20;
-
-pub const BAD_STATE: usize = 21;
-
-pub const NOT_RUNNING: usize = 22;
 
 // ---- stops
 

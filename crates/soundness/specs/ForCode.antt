@@ -23,8 +23,7 @@ use Rattle.rules.specs.Host.{Outcome, ended, stopped, running, Went, refused, we
 use Rattle.rules.specs.SafeStep.{SafeStep}
 use Rattle.rules.specs.Cases.{BudgetZero}
 use Rattle.rules.specs.declared.PageRange.{PageRange}
-use Rattle.rules.specs.declared.Verdict.{Verdict}
-use Rattle.rules.specs.declared.Verdict.TheVariants.{Accepted, Refused}
+use Rattle.rules.specs.Refusals.{Verdict, Accepted, Refused}
 use Rattle.state.specs.Effects.{Bounded}
 use Rattle.state.specs.Reads.{owner_past}
 use Rattle.soundness.specs.Facts.{ModuleOk, accepted_ok}

@@ -40,7 +40,7 @@ use Rattle.rules.specs.Stages.{verdict}
 use Rattle.rules.specs.Verdict.{term_test, struct_test, function_test, instruction_test, instruction_stage, last_test, module_stages, instructions, module_rules}
 use Rattle.rules.specs.Table.{case, agree}
 use Rattle.rules.specs.CasesFile.{records_bytes, file_of, file}
-use Rattle.rules.specs.declared.Verdict.TheVariants.{Accepted}
+use Rattle.rules.specs.Refusals.{Accepted}
 use Rattle.soundness.specs.Demand3.{verdict_accepted, demand_3}
 use Rattle.soundness.specs.ForCode.{opened_steady, go_went}
 

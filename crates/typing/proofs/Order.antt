@@ -13,7 +13,7 @@ use Rattle.rules.specs.Typing.{Typed}
 use Rattle.rules.specs.Decision.{dec_typed}
 use Rattle.rules.specs.WellTyped.{TermOk, StructOk, FunctionOk, EntryOk, Last, dec_term, dec_struct, dec_last}
 use Rattle.rules.specs.Verdict.{Broken, term_test, struct_test, instruction_test, instruction_stage, last_test, verdict_of}
-use Rattle.rules.specs.declared.Verdict.TheVariants.{Refused}
+use Rattle.rules.specs.Refusals.{Refused}
 use Rattle.typing.specs.Walk.{Fits}
 use Rattle.typing.specs.Accepted.{even_test, odd_test, module_ranges}
 use Rattle.typing.specs.Refused.{Passed, Where, file_length, block, record_at, term, struct, function, instruction, last, where_refused, not_lower, function_test_law}

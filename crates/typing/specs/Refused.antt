@@ -12,7 +12,7 @@ use Rattle.rules.specs.Decode.{module_of, start_of}
 use Rattle.rules.specs.Decision.{dec_typed}
 use Rattle.rules.specs.WellTyped.{FunctionOk, EntryOk, dec_term, dec_struct, dec_function, dec_entry, dec_last}
 use Rattle.rules.specs.Verdict.{Broken, term_test, struct_test, function_test, instruction_test, instruction_stage, term_stage, struct_stage, function_stage, last_stage, last_test, module_stages, accepted_as, module_rules, record_rules, verdict_of, IsAccepted}
-use Rattle.rules.specs.declared.Verdict.TheVariants.{Refused}
+use Rattle.rules.specs.Refusals.{Refused}
 use Rattle.typing.specs.Stages.{Passes, AllPass, pass_append, pass_each, verdict_append, Fails, FirstIn, here, later, first_in, in_append, FirstOf, in_list}
 use Rattle.typing.specs.Accepted.{stages, no_failure, even_test, odd_test}
 

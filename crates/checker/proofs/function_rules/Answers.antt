@@ -3,7 +3,7 @@ use mathlib.Core.Path.{ap, ◌∙◌}
 use Prim.Native.Nat.{ℕ}
 use Rattle.rules.specs.Limits.{bad_function}
 use Rattle.rules.specs.Decode.{module_of}
-use Rattle.rules.specs.declared.Verdict.TheVariants as verdicts
+use Rattle.rules.specs.Refusals as verdicts
 use Rattle.rules.specs.Verdict.{function_stage, function_test}
 use Rattle.words.specs.First.{first}
 use Rattle.words.specs.FirstLaws.{first_all}

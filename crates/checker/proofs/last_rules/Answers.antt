@@ -3,7 +3,7 @@ use mathlib.Core.Path.{ap, ◌∙◌}
 use Prim.Native.Nat.{ℕ}
 use Rattle.rules.specs.Limits.{bad_end}
 use Rattle.rules.specs.Decode.{module_of}
-use Rattle.rules.specs.declared.Verdict.TheVariants as verdicts
+use Rattle.rules.specs.Refusals as verdicts
 use Rattle.rules.specs.Verdict.{last_stage, last_test, accepted_as}
 use Rattle.words.specs.First.{first}
 use Rattle.functions.specs.Functions.{start_small}
