@@ -1,21 +1,30 @@
 -- What some rules say of a file: it passes, or is refused. `outcome` is the verdict of stages before what comes behind them; with
 -- `verdict_outcome` code goes on from it. Assumes nothing.
-use Rattle.std.specs.Prelude.{◌≡◌, refl, Bool, true, false, cond, ℕ, ◌+◌, ◌*◌, ◌/◌, ◌%◌, ◌<◌, ◌≤◌, ltb}
+use Rattle.std.specs.Prelude.{◌≡◌, refl, Bool, true, false, cond, ℕ, ◌+◌, ◌*◌, ◌/◌, ◌%◌, ◌<◌, ◌≤◌, ltb, Result, Ok, Err}
 use Rattle.std.proofs.Math.Path.{sym}
-use Rattle.std.proofs.Common.{◌∙◌, arith, lit<, lit≤, lt-ltb, le-ltb, ltb-false}
+use Rattle.std.proofs.Common.{◌∙◌, arith, lit<, lit≤, lt-ltb, le-ltb, ltb-false, eq-eqb, below_more}
 use mathlib.Core.List.{List, [], ◌∷◌}
 use Rattle.words.specs.Bytes.{Bytes}
 use Rattle.words.specs.First.{first}
-use Rattle.words.specs.FirstLaws.{first_is, first_all, first_none}
+use Rattle.words.specs.FirstLaws.{first_is, first_all, first_none, first_found}
 use Rattle.rules.specs.Limits.{bad_file, bad_block}
 use Rattle.rules.specs.Stages.{Stage, failure, refusal, verdict}
-use Rattle.rules.specs.File.{blocks, length_right, block_test, length_stage, block_stage}
+use Rattle.rules.specs.File.{blocks, length_right, place_right, check_right, block_test, length_stage, block_stage}
 use Rattle.rules.specs.Verdict.{record_rules, verdict_of}
 use Rattle.typing.specs.Stages.{Passes, AllPass}
-use Rattle.rules.specs.Refusals.{Verdict}
+use Rattle.rules.specs.Refusals.{Verdict, number_of, place_of}
 use Rattle.rules.specs.Refusals as verdicts
-use Rattle.framing.specs.declared.Outcome.{Outcome}
-use Rattle.framing.specs.declared.Outcome.TheVariants.{Passed, Refused}
+use Rattle.rules.specs.declared.refusal.Refusal.{Refusal}
+
+-- the answer of some rules: the file passes them, or is refused with a number and a place
+pub data Outcome : Type 0 where
+  Passed : Outcome
+  Refused : (number place : ℕ) → Outcome
+
+-- what the code's answer says, whatever it gives where the file passes
+abbrev pub outcome_meant : {T : Type 0} → Result T Refusal → Outcome
+outcome_meant (Ok x) = Passed
+outcome_meant (Err e) = Refused (number_of e) (place_of e)
 
 -- the first failure of the stages, or passed
 unfoldable pub outcome : List Stage → Outcome
@@ -89,16 +98,53 @@ all_passed (s ∷ ss) p =
 
 -- ---- the cases of the code
 
+-- block i has two tests: 2 first
+place_first : (f : Bytes) (i : ℕ) → block_test f (2 * i) ≡ place_right f i
+unfolding block_test
+place_first f i = let r : 2 * i % 2 ≡ 0 = omega arith in let q : 2 * i / 2 ≡ i = omega arith in rw (eq-eqb (2 * i % 2) 0 r, q)
+
+check_second : (f : Bytes) (i : ℕ) → block_test f (2 * i + 1) ≡ check_right f i
+unfolding block_test
+check_second f i = let r : (2 * i + 1) % 2 ≡ 1 = omega arith in let q : (2 * i + 1) / 2 ≡ i = omega arith in rw (r, q)
+
+-- the tests of the blocks below i hold
+pub Right : Bytes → ℕ → Type 0
+Right f i = (j : ℕ) → j < 2 * i → block_test f j ≡ true
+
+pub right_none : (f : Bytes) → Right f 0
+unfolding Right
+right_none f j h = absurd (omega arith)
+
 module _ (f : Bytes) where
   pub wrong_length : length_right f ≡ false → Refused bad_file 0 ≡ framing_of f
   unfolding framing_of
   wrong_length e = sym (refuses (length_stage f) (block_stage f ∷ []) (one_fails _ e) (lit< tt))
 
-  module _ (e : length_right f ≡ true) {p : ℕ} (q : p ≡ first (2 * blocks f) (block_test f)) where
-    pub wrong_block : p < 2 * blocks f → Refused (bad_block + p % 2) (p / 2) ≡ framing_of f
-    unfolding framing_of
-    wrong_block h = sym (passes (length_stage f) (block_stage f ∷ []) (one_passes _ e) (lit≤ tt) ∙ refuses (block_stage f) [] q h)
+  -- behind the length the blocks' tests decide
+  wrong_block : length_right f ≡ true → {p : ℕ} → p ≡ first (2 * blocks f) (block_test f) → p < 2 * blocks f → Refused (bad_block + p % 2) (p / 2) ≡ framing_of f
+  unfolding framing_of
+  wrong_block e q h = sym (passes (length_stage f) (block_stage f ∷ []) (one_passes _ e) (lit≤ tt) ∙ refuses (block_stage f) [] q h)
 
-    pub right_blocks : 2 * blocks f ≤ p → Passed ≡ framing_of f
-    unfolding framing_of
-    right_blocks h = sym (passes (length_stage f) (block_stage f ∷ []) (one_passes _ e) (lit≤ tt) ∙ passes (block_stage f) [] q h ∙ none)
+  pub wrong_place : length_right f ≡ true → {i : ℕ} → i < blocks f → Right f i → place_right f i ≡ false → Refused bad_block i ≡ framing_of f
+  unfolding Right
+  wrong_place e {i} h before d =
+      let l : 2 * i < 2 * blocks f = omega arith in
+      let n : bad_block ≡ bad_block + 2 * i % 2 = omega arith in
+      let q : i ≡ 2 * i / 2 = omega arith in
+      (λ k. Refused (n k) (q k)) ∙ wrong_block e (first_found _ _ _ before l (place_first f i ∙ d)) l
+
+  pub wrong_check : length_right f ≡ true → {i : ℕ} → i < blocks f → Right f i → place_right f i ≡ true → check_right f i ≡ false → Refused (bad_block + 1) i ≡ framing_of f
+  unfolding Right
+  wrong_check e {i} h before r d =
+      let l : 2 * i + 1 < 2 * blocks f = omega arith in
+      let n : bad_block + 1 ≡ bad_block + (2 * i + 1) % 2 = omega arith in
+      let q : i ≡ (2 * i + 1) / 2 = omega arith in
+      (λ k. Refused (n k) (q k)) ∙ wrong_block e (first_found _ _ _ (below_more _ (2 * i) before (place_first f i ∙ r)) l (check_second f i ∙ d)) l
+
+  pub right_more : (i : ℕ) → Right f i → place_right f i ≡ true → check_right f i ≡ true → Right f (i + 1)
+  unfolding Right
+  right_more i before r d j h = below_more _ (2 * i + 1) (below_more _ (2 * i) before (place_first f i ∙ r)) (check_second f i ∙ d) j (omega arith)
+
+  pub right_blocks : length_right f ≡ true → (i : ℕ) → i ≡ blocks f → Right f i → Passed ≡ framing_of f
+  unfolding framing_of Right
+  right_blocks e i q h = sym (passes (length_stage f) (block_stage f ∷ []) (one_passes _ e) (lit≤ tt) ∙ passes (block_stage f) [] (sym (first_none (2 * blocks f) (block_test f) (λ j l. h j (omega arith)))) (omega arith) ∙ none)

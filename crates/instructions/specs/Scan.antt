@@ -13,9 +13,7 @@ use Rattle.rules.specs.Decision.{dec_typed}
 use Rattle.rules.specs.Decode.{module_of, start_of}
 use Rattle.rules.specs.Verdict.{instruction_test, instruction_stage}
 use Rattle.functions.specs.Functions.{function_at, function_at_law, instruction_in, place_in, place_in_law, code_at_law}
-use Rattle.framing.specs.Outcome.{outcome, passes, refuses}
-use Rattle.framing.specs.declared.Outcome.{Outcome}
-use Rattle.framing.specs.declared.Outcome.TheVariants.{Passed, Refused}
+use Rattle.framing.specs.Outcome.{Outcome, Passed, Refused, outcome, passes, refuses}
 
 -- the test of instruction i of the function with record 7 at h, which stands at record r
 pub test_at_law : (f : Bytes) (h i r : ℕ) → r ≡ place_in f h i → does (dec_typed (module_of f) (function_at f h) (instruction_in f r)) ≡ instruction_test (module_of f) (function_at f h) i
