@@ -1,10 +1,9 @@
 -- How the loop over the records shows its result: a record fails, the file ends too soon, or neither. Assumes nothing.
-use Rattle.std.specs.Prelude.{◌≡◌, refl, Bool, true, false, not, ◌&&◌, ℕ, ◌+◌, ◌-◌, ◌<◌, ltb, eqb}
+use Rattle.std.specs.Prelude.{◌≡◌, refl, Bool, true, false, not, ◌&&◌, ℕ, ◌+◌, ◌-◌, ◌<◌, ltb, eqb, Some, None}
 use Rattle.std.proofs.Math.Path.{sym}
 use Rattle.std.proofs.Common.{ap, ◌∙◌, arith, below_more}
 use Rattle.words.specs.Bytes.{Bytes}
 use Rattle.words.specs.Choose.{both, both_of}
-use Rattle.words.specs.First.{first}
 use Rattle.words.specs.FirstLaws.{first_is}
 use Rattle.rules.specs.File.{records, record_of, is_instruction, kind_call}
 use Rattle.rules.specs.Walk.{to, scan, whole}
@@ -12,6 +11,7 @@ use Rattle.rules.specs.Records.{is_filler, callee_fits, region_bytes_fit, instru
 use Rattle.rules.specs.declared.Record.{Record}
 use Rattle.rules.specs.declared.Walk.{Walk}
 use Rattle.rules.specs.declared.Phase.TheVariants.{Code, Filler}
+use Rattle.records.specs.Outcome.{IsFault}
 use Rattle.fits.specs.Phases.{fits_in_law}
 use Rattle.walk.specs.Scan.{in_filler, in_filler_law, next_filler, walk_more}
 use Rattle.walk.specs.Run.{counted_only, Run}
@@ -25,8 +25,8 @@ module _ (f : Bytes) {n : ℕ} (hn : n ≡ records f) {r : ℕ} {w : Walk} (hw :
     record_test_law = test_at_law f r (omega arith) ∙ sym (rw (hw, hx) at hb)
 
   module _ (before : (j : ℕ) → j < r → record_test f j ≡ true) where
-    pub record_fails : r < n → record_test f r ≡ false → r ≡ first (records f + 1) (record_test f)
-    record_fails h e = sym (first_is (records f + 1) (record_test f) r (omega arith) before (λ k. e))
+    pub record_fails : r < n → record_test f r ≡ false → IsFault f (Some r)
+    record_fails h e = (first_is (records f + 1) (record_test f) r (omega arith) before (λ k. e), omega arith)
 
     module _ (hr : r ≡ n) where
       there : (scan f (records f)).walk ≡ w
@@ -38,13 +38,11 @@ module _ (f : Bytes) {n : ℕ} (hn : n ≡ records f) {r : ℕ} {w : Walk} (hw :
       passed : (j : ℕ) → j < records f → record_test f j ≡ true
       passed j h = before j (omega arith)
 
-      pub ends_short : end_fits w.phase ≡ false → n ≡ first (records f + 1) (record_test f)
-      ends_short e = hn ∙ sym (first_is (records f + 1) (record_test f) (records f) (omega arith) passed (λ k. at_end ∙ e))
+      pub ends_short : end_fits w.phase ≡ false → IsFault f (Some n)
+      ends_short e = (first_is (records f + 1) (record_test f) (records f) (omega arith) passed (λ k. at_end ∙ e) ∙ sym hn, omega arith)
 
-      pub none_fails : end_fits w.phase ≡ true → n + 1 ≡ first (records f + 1) (record_test f)
-      none_fails e =
-          ap (λ (k : ℕ). k + 1) hn
-          ∙ sym (first_is (records f + 1) (record_test f) (records f + 1) (omega arith) (below_more _ (records f) passed (at_end ∙ e)) (λ k. absurd (omega arith)))
+      pub none_fails : end_fits w.phase ≡ true → IsFault f None
+      none_fails e = first_is (records f + 1) (record_test f) (records f + 1) (omega arith) (below_more _ (records f) passed (at_end ∙ e)) (λ k. absurd (omega arith))
 
 -- ---- the filler
 

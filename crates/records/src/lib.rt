@@ -2,38 +2,34 @@
 // equation with a definition of rules' specs/ or of specs/, for every byte slice.
 #![tactic(auto)]
 
-ghost use Rattle.std.specs.Prelude.{◌≡◌, ℕ, ◌+◌, ◌<◌, ◌≤◌, true};
-ghost use Rattle.words.specs.First.{first};
+ghost use Rattle.std.specs.Prelude.{◌≡◌, ℕ, ◌<◌, ◌≤◌, true, IfOk};
 ghost use Rattle.rules.specs.File.{records};
 ghost use Rattle.rules.specs.Walk.{scan};
 ghost use Rattle.rules.specs.Records.{record_test};
 ghost use Rattle.walk.specs.Run.{Run};
 ghost use Rattle.walk.specs.Tables.{tables_of};
-ghost use Rattle.records.specs.Outcome.{records_of};
+ghost use Rattle.framing.specs.Outcome.{outcome_meant};
+ghost use Rattle.records.specs.Outcome.{IsFault, records_of};
 ghost use Rattle.records.specs.Checked.{checked_of};
 ghost use Rattle.records.specs.Records.{Filled};
 
-use framing::Outcome;
-use rules::Walk;
-use rules::limits::BAD_RECORD;
+use rules::{Refusal, Walk};
 use walk::tables::Tables;
 
 // The first place at which refusal 4 is due, where the walk is in the filler before record `from`, and no record before it is at fault.
-fn filler_fault(f: &[u8], n: usize, from: usize) -> usize
+fn filler_fault(f: &[u8], n: usize, from: usize) -> Option<usize>
     requires fact_1 { n ≡ records f.now }
     requires fact_2 { Filled f.now from }
     requires fact_3 { from ≤ n }
-    ensures { result ≡ first (records f.now + 1) (record_test f.now) }
+    ensures { IsFault f.now result }
 {
-    let mut r = from;
-    while r < n {
+    for r in from..n {
         let x = walk::file::record_at(f, r);
         if !fits::is_filler(x) {
-            return r;
+            return Some(r);
         }
-        r = r + 1;
     }
-    n + 1
+    None
 }
 
 // Instructions in a row: the first record from `from` on, before the last of n, that does not plainly fit. The walk before record `from`
@@ -49,29 +45,26 @@ fn run_end(f: &[u8], n: usize, w: Walk, from: usize) -> usize
         return from;
     }
     let limits = operands::limits(w.registers, w.instructions);
-    let mut left = w.left;
-    let mut r = from;
-    while r + 1 < n {
+    for r in from..n - 1 {
         let x = walk::file::record_at(f, r);
-        if !fits::plainly_fits(&limits, left, x) {
+        if !fits::plainly_fits(&limits, w.left - (r - from), x) {
             return r;
         }
-        left = left - 1;
-        r = r + 1;
     }
-    r
+    n - 1
 }
 
-// The first place at which refusal 4 is due: a record, or their number where the file ends too soon; else one more.
-pub fn first_fault(f: &[u8], t: Tables) -> usize
+// The first place at which refusal 4 is due, if it is: a record, or their number where the file ends too soon.
+pub fn first_fault(f: &[u8], t: Tables) -> Option<usize>
     requires { t ≡ tables_of f.now }
-    ensures { result ≡ first (records f.now + 1) (record_test f.now) }
+    ensures { IsFault f.now result }
 {
     let n = walk::file::count(f);
     let starts = t.starts;
     let end = t.walk;
     let mut w = walk::step::start();
     let mut r = 0;
+    // (d) a `while`, as a turn passes over all instructions in a row
     while r < n {
         let p = w.phase;
         if walk::step::in_filler(p) {
@@ -82,59 +75,33 @@ pub fn first_fault(f: &[u8], t: Tables) -> usize
         r = e;
         let x = walk::file::record_at(f, r);
         if !fits::fits(f, &starts, end, w, x) {
-            return r;
+            return Some(r);
         }
         w = walk::step::next(w, x, r);
-        r = r + 1;
+        r += 1;
     }
     let p = w.phase;
-    if fits::end_fits(p) { n + 1 } else { n }
+    if fits::end_fits(p) { None } else { Some(n) }
 }
 
 // Refusal 4.
-pub fn record_rules(f: &[u8], t: Tables) -> Outcome
+pub fn record_rules(f: &[u8], t: Tables) -> Result<(), Refusal>
     requires { t ≡ tables_of f.now }
-    ensures { result ≡ records_of f.now }
+    ensures { outcome_meant result ≡ records_of f.now }
 {
-    let n = walk::file::count(f);
-    let p = first_fault(f, t);
-    if p <= n {
-        Outcome::Refused {
-            number: BAD_RECORD,
-            place: p,
-        }
-    } else {
-        Outcome::Passed
+    match first_fault(f, t) {
+        Some(p) => Err(Refusal::Record(p)),
+        None => Ok(()),
     }
 }
 
-// What refusals 1 to 4 say of a file, and its tables, where it is framed.
-#[derive(Clone, Copy)]
-pub struct Checked {
-    pub outcome: Outcome,
-    pub tables: Tables,
-}
-
-// Refusals 1, 2, 3 and 4, in order.
-pub fn form_rules(f: &[u8]) -> Checked
-    ensures { result ≡ checked_of f.now }
+// Refusals 1, 2, 3 and 4, in order; of a file that passes, its tables.
+pub fn form_rules(f: &[u8]) -> Result<Tables, Refusal>
+    ensures answer { outcome_meant result ≡ checked_of f.now }
+    ensures tables { IfOk result (λ t. t ≡ tables_of f.now) }
 {
-    let framed = framing::framing(f);
-    match framed {
-        Outcome::Passed => {
-            let t = walk::tables::tables_of(f);
-            let o = record_rules(f, t);
-            Checked {
-                outcome: o,
-                tables: t,
-            }
-        }
-        Outcome::Refused { number, place } => {
-            let t = walk::tables::no_tables();
-            Checked {
-                outcome: Outcome::Refused { number, place },
-                tables: t,
-            }
-        }
-    }
+    framing::framing(f)?;
+    let t = walk::tables::tables_of(f);
+    record_rules(f, t)?;
+    Ok(t)
 }

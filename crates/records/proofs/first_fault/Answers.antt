@@ -69,9 +69,6 @@ loop-r-preserved c =
           (record_test_law _ c.count-n.ensures hw c.record_at-x.ensures c.fits.ensures h ∙ c.if-not-fits.false),
     )
 
-pub overflow_add-result : goal.overflow_add-result
-overflow_add-result c = let h = records_few c.args.f.now c.well_formed.0.0 in omega (arith, c.count-n.ensures)
-
 pub returns-then-end_fits : goal.returns-then-end_fits
 returns-then-end_fits c = none_fails _ c.count-n.ensures c.loop-r.invariant.1 c.loop-r.invariant.3 (omega arith) (sym c.end_fits.ensures ∙ c.if-end_fits.true)
 

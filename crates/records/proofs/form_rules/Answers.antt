@@ -1,10 +1,17 @@
 -- `records::form_rules` meets its contract: the framing, then refusal 4. Assumes nothing.
-use mathlib.Core.Path.{sym, ◌∙◌}
-use Rattle.records.specs.Checked.{checked_passed, checked_refused}
+use Rattle.std.proofs.lemmas.Result.{err_from_is_err_and}
+use Rattle.records.specs.Checked.{checked_framed, checked_refused}
 use Rattle.records.proofs.form_rules.Goals as goal
 
-pub returns-in-Passed : goal.returns-in-Passed
-returns-in-Passed c = checked_passed _ (sym c.framing-framed.ensures ∙ c.in-Passed.is) c.record_rules-o.ensures c.tables_of-t.ensures
+pub returns-in_err-framing-clause-answer : goal.returns-in_err-framing-clause-answer
+returns-in_err-framing-clause-answer c =
+    let p = err_from_is_err_and c.from_residual.result c.from_residual.ensures.1 in
+    rw (p.1, p.2) (checked_refused _ c.in_err-framing.ensures)
 
-pub returns-in-Refused : goal.returns-in-Refused
-returns-in-Refused c = checked_refused _ (sym c.framing-framed.ensures ∙ c.in-Refused.is) c.no_tables-t.ensures
+pub returns-in_err-record_rules-clause-answer : goal.returns-in_err-record_rules-clause-answer
+returns-in_err-record_rules-clause-answer c =
+    let p = err_from_is_err_and c.from_residual-in_err-record_rules.result c.from_residual-in_err-record_rules.ensures.1 in
+    rw (p.1, p.2) (checked_framed _ c.in_ok-framing.ensures c.in_err-record_rules.ensures)
+
+pub returns-clause-answer : goal.returns-clause-answer
+returns-clause-answer c = checked_framed _ c.in_ok-framing.ensures c.in_ok-record_rules.ensures

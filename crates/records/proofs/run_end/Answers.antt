@@ -3,10 +3,8 @@ use mathlib.Core.Path.{◌≡◌, refl, sym, ap, ◌∙◌}
 use mathlib.Core.Bool.{true, ◌&&◌}
 use mathlib.Core.Logic.{⊎_elim}
 use mathlib.Core.List.{List}
-use Prim.Native.Nat.{ℕ, ◌<◌}
+use Prim.Native.Nat.{ℕ, ◌-◌}
 use native.Mathlib.Omega.{arith}
-use borrow.Author.Tests.{ltb-true}
-use lib.Dec.{ltb}
 use Rattle.words.specs.Choose.{both, lt_or_le}
 use Rattle.rules.specs.declared.Walk.{Walk}
 use Rattle.walk.specs.Run.{counted_only, in_code_law, run_none, run_more}
@@ -19,27 +17,17 @@ returns-then-not-in_code c = (run_none _ c.requires.fact_2 c.requires.fact_3, λ
 
 pub loop-r-init : goal.loop-r-init
 loop-r-init c =
-    let same = c.requires.fact_2 in
-    let left = ap (λ (w : Walk). w.left) same in (
+    let same = c.requires.fact_2 in (
       run_none _ refl c.requires.fact_3,
-      omega arith,
       sym (ap (λ (w : Walk). w.phase) same) ∙ in_code_law _ (sym c.in_code.ensures ∙ c.if-not-in_code.false),
       λ j l m. absurd (omega arith),
     )
 
-pub overflow_add-r : goal.overflow_add-r
-overflow_add-r c = omega (arith, c.loop-r.invariant.0.below)
+pub overflow_sub-w : goal.overflow_sub-w
+overflow_sub-w c = omega (arith, c.loop-r.invariant.0.from, c.loop-r.invariant.0.many, ap (λ (w : Walk). w.left) c.requires.fact_2)
 
 pub returns-then-not-plainly_fits : goal.returns-then-not-plainly_fits
-returns-then-not-plainly_fits c = (rw c.requires.fact_2 c.loop-r.invariant.0, c.loop-r.invariant.3)
-
-pub overflow_sub-left : goal.overflow_sub-left
-overflow_sub-left c =
-    let x = c.record_at-x.result in
-    let left = c.loop-r.left in
-    let test = sym c.plainly_fits.ensures ∙ c.if-not-plainly_fits.false in
-    let h : 1 < left = ltb-true 1 left (both (ltb 1 left) _ (both (counted_only x.kind left) _ test).0).0 in
-    omega arith
+returns-then-not-plainly_fits c = (rw c.requires.fact_2 c.loop-r.invariant.0, c.loop-r.invariant.2)
 
 pub loop-r-preserved : goal.loop-r-preserved
 loop-r-preserved c =
@@ -48,17 +36,18 @@ loop-r-preserved c =
     let inv = c.loop-r.invariant in
     let x = c.record_at-x.result in
     let hx = c.record_at-x.ensures in
-    let left = c.loop-r.left in
+    let left = c.args.w.left - (c.loop-r.r - c.args.from) in
     let test = sym c.plainly_fits.ensures ∙ c.if-not-plainly_fits.false in
     let limits = c.limits-limits.ensures ∙ ap (λ (w : Walk). limits_of w.registers w.instructions) same in
     let fits = ap (λ (l : List ℕ). counted_only x.kind left && below_limits l x) (sym limits) ∙ test in
     let counted : counted_only x.kind left ≡ true = (both (counted_only x.kind left) _ test).0 in (
-      run_more _ inv.0 inv.2 c.loop-r-test.true (rw (hx, inv.1) at counted),
-      omega (arith, inv.0.from),
-      inv.2,
+      run_more _ inv.0 inv.1 (omega arith) (rw (hx, same) at counted),
+      inv.1,
       λ j l m.
-          ⊎_elim (λ k. inv.3 j l k) (λ k. let e : j ≡ c.loop-r.r = omega arith in rw e (plain_test f c.requires.fact_1 left inv.0 inv.2 hx fits)) (lt_or_le j c.loop-r.r),
+          ⊎_elim (λ k. inv.2 j l k) (λ k. let e : j ≡ c.loop-r.r = omega arith in rw e (plain_test f c.requires.fact_1 left inv.0 inv.1 hx fits)) (lt_or_le j c.loop-r.r),
     )
 
 pub returns : goal.returns
-returns c = (rw c.requires.fact_2 c.loop-r.invariant.0, c.loop-r.invariant.3)
+returns c =
+    let e : c.args.n - 1 ≡ c.loop-r.r = omega (arith, c.requires.fact_3) in
+    (rw (e, c.requires.fact_2) c.loop-r.invariant.0, λ j l m. c.loop-r.invariant.2 j l (omega (arith, c.requires.fact_3)))
