@@ -1,5 +1,6 @@
 -- Document 01's base with P1 and P2 of document 02, and what is prepared for P3 and P14, in its order: what must be believed.
 pub mod Limits
+pub mod Stops
 -- the module file and its rules
 pub mod Refusals
 pub mod Stages

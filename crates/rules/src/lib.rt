@@ -1,8 +1,10 @@
-// The types that the definitions of specs/ and the code share, document 01's numbers (limits), and why a file or call is refused (refusal).
+// The types that the definitions of specs/ and the code share, document 01's numbers (limits), why a file or a call is refused (refusal), and
+// why a module stops (stop).
 #![tactic(auto)]
 
 pub mod limits;
 pub mod refusal;
+pub mod stop;
 
 pub use refusal::Refusal;
 
