@@ -1,31 +1,37 @@
-// Kinds 18 to 20 in code: operations on integers of w bytes, w being 1, 2 or 4. The largest number of a width
-// comes with it as a mask m, so that wrapping is one `and`. Operations take both in one number v, and take apart what they need.
+// Kinds 18 to 20 in code: operations on integers of w bytes, w being 1, 2 or 4: a value, or why the module stops. The largest number of a
+// width comes with it as a mask m, so that wrapping is one `and`. Operations take both in one number v, and take apart what they need.
 #![tactic(auto)]
 
 ghost use Rattle.std.specs.Prelude.{◌≡◌, ℕ, ◌+◌, ◌-◌, ◌%◌, ◌/◌, ◌*◌, ◌^◌, ◌≤◌, ◌<◌, ltb};
 ghost use Rattle.words.specs.Widths.{IsWidth};
 ghost use Rattle.rules.specs.Limits.{no_quotient};
 ghost use Rattle.rules.specs.Arithmetic.{value, cut, flag, value_if, left_by, right_by, magnitude, nearest_by, negative, biased, operation_of, operated, sign_extended};
-ghost use Rattle.arithmetic.specs.Meaning.{computed_of, width_in, mask_in, Sized};
+ghost use Rattle.arithmetic.specs.Meaning.{computed_of, operation_number, width_in, mask_in, Sized};
 
-use rules::limits::{NO_QUOTIENT, SHIFT_PAST};
+use rules::stop::Stop;
 
 // 256 to the width of an i32, and the lowest i32 that is negative.
 const WORD: u64 = 4294967296;
 
 const NEGATIVE: u32 = 2147483648;
 
-// What an operation gives: a value, or the number of a stop.
-#[derive(Clone, Copy)]
-pub enum Number {
-    Is(u32),
-    Stop(u8),
-}
-
-fn wide(x: u32) -> u64
-    ensures { (result ≡ x) × (result < 2 ^ 32) }
-{
-    x as u64
+// What kind 18 does, in the order of their numbers: 0 add to 13 less signed.
+#[derive(Clone, Copy, PartialEq, Eq)]
+pub enum Operation {
+    Add,
+    Subtract,
+    Multiply,
+    And,
+    Or,
+    Xor,
+    ShiftLeft,
+    ShiftRight,
+    Quotient,
+    Remainder,
+    Nearest,
+    Equal,
+    Less,
+    LessSigned,
 }
 
 fn width_in(v: u64) -> u64
@@ -58,7 +64,7 @@ fn range(w: u64) -> u64
 pub fn cut_by(n: u64, m: u32) -> u32
     ensures { (w : ℕ) → IsWidth w → m + 1 ≡ 256 ^ w → result ≡ cut w n }
 {
-    (n & wide(m)) as u32
+    (n & u64::from(m)) as u32
 }
 
 // The width in bits.
@@ -69,30 +75,31 @@ fn bits_of(w: u64) -> u64
     8 * w
 }
 
-fn flag_of(b: bool) -> Number
-    ensures { computed_of result ≡ value (flag b) }
+#[tactic(auto, unfolding(rules::specs::Arithmetic::flag))]
+fn flag(b: bool) -> u32
+    ensures { result ≡ flag b }
 {
-    if b { Number::Is(1) } else { Number::Is(0) }
+    u32::from(b)
 }
 
 // Moved by half the range, so that the signed order becomes the unsigned one.
+#[tactic(auto, unfolding(rules::specs::Arithmetic::biased))]
 fn bias(w: u64, x: u32) -> u64
     requires { IsWidth w }
     ensures { result ≡ biased w x }
 {
     let m = range(w);
-    (wide(x) + m / 2) % m
+    (u64::from(x) + m / 2) % m
 }
 
-fn shift_left(v: u64, x: u32, y: u32) -> Number
+fn shift_left(v: u64, x: u32, y: u32) -> Result<u32, Stop>
     requires { Sized v }
     ensures { computed_of result ≡ left_by (ltb y (8 * width_in v)) (width_in v) x y }
 {
-    let n = wide(y);
-    if n < bits_of(width_in(v)) {
-        Number::Is(cut_by(wide(x) << n, mask_in(v)))
+    if u64::from(y) < bits_of(width_in(v)) {
+        Ok(cut_by(u64::from(x) << y, mask_in(v)))
     } else {
-        Number::Stop(SHIFT_PAST)
+        Err(Stop::ShiftPast)
     }
 }
 
@@ -104,43 +111,46 @@ fn logical_right(x: u32, y: u32) -> u32
     x >> y
 }
 
-fn shift_right(v: u64, x: u32, y: u32) -> Number
+#[tactic(auto, unfolding(rules::specs::Arithmetic::right_by))]
+fn shift_right(v: u64, x: u32, y: u32) -> Result<u32, Stop>
     requires { Sized v }
     ensures { computed_of result ≡ right_by (ltb y (8 * width_in v)) x y }
 {
-    if wide(y) < bits_of(width_in(v)) {
-        Number::Is(logical_right(x, y))
+    if u64::from(y) < bits_of(width_in(v)) {
+        Ok(logical_right(x, y))
     } else {
-        Number::Stop(SHIFT_PAST)
+        Err(Stop::ShiftPast)
     }
 }
 
 // How far an i32 lies from zero.
+#[tactic(auto, unfolding(rules::specs::Arithmetic::magnitude))]
 fn magnitude_of(x: u32) -> u64
     ensures { (result ≡ magnitude x) × (result ≤ negative) }
 {
     if x < NEGATIVE {
-        wide(x)
+        u64::from(x)
     } else {
-        WORD - wide(x)
+        WORD - u64::from(x)
     }
 }
 
-fn positive(q: u64) -> Number
+#[tactic(auto, unfolding(rules::specs::Arithmetic::value_if))]
+fn positive(q: u64) -> Result<u32, Stop>
     ensures { computed_of result ≡ value_if (ltb q negative) no_quotient q }
 {
-    if q < (NEGATIVE as u64) {
-        Number::Is(q as u32)
+    if q < u64::from(NEGATIVE) {
+        Ok(q as u32)
     } else {
-        Number::Stop(NO_QUOTIENT)
+        Err(Stop::NoQuotient)
     }
 }
 
-fn negated(q: u64) -> Number
+fn negated(q: u64) -> u32
     requires { q ≤ 256 ^ 4 }
-    ensures { computed_of result ≡ value (cut 4 (256 ^ 4 - q)) }
+    ensures { result ≡ cut 4 (256 ^ 4 - q) }
 {
-    Number::Is(((WORD - q) % WORD) as u32)
+    ((WORD - q) % WORD) as u32
 }
 
 // What is divided by 2q, so that the quotient of p and q comes out to the nearest, halves upwards.
@@ -152,55 +162,41 @@ fn dividend(p: u64, q: u64) -> u64
 }
 
 // The quotient of two i32 to the nearest, halves away from zero.
-fn nearest(x: u32, y: u32) -> Number
+fn nearest(x: u32, y: u32) -> Result<u32, Stop>
     ensures { computed_of result ≡ nearest_by (ltb 0 y) x y }
 {
     if y == 0 {
-        return Number::Stop(NO_QUOTIENT);
+        return Err(Stop::NoQuotient);
     }
     let p = magnitude_of(x);
     let q = magnitude_of(y);
     let n = dividend(p, q) / (2 * q);
-    if x < NEGATIVE {
-        if y < NEGATIVE {
-            positive(n)
-        } else {
-            negated(n)
-        }
+    if (x < NEGATIVE) == (y < NEGATIVE) {
+        positive(n)
     } else {
-        if y < NEGATIVE {
-            negated(n)
-        } else {
-            positive(n)
-        }
+        Ok(negated(n))
     }
 }
 
-fn quotient(x: u32, y: u32) -> Number
+#[tactic(auto, unfolding(rules::specs::Arithmetic::value_if))]
+fn quotient(x: u32, y: u32) -> Result<u32, Stop>
     ensures { computed_of result ≡ value_if (ltb 0 y) no_quotient (x / y) }
 {
-    if 0 < y {
-        Number::Is(x / y)
-    } else {
-        Number::Stop(NO_QUOTIENT)
-    }
+    x.checked_div(y).ok_or(Stop::NoQuotient)
 }
 
-fn remainder(x: u32, y: u32) -> Number
+#[tactic(auto, unfolding(rules::specs::Arithmetic::value_if))]
+fn remainder(x: u32, y: u32) -> Result<u32, Stop>
     ensures { computed_of result ≡ value_if (ltb 0 y) no_quotient (x % y) }
 {
-    if 0 < y {
-        Number::Is(x % y)
-    } else {
-        Number::Stop(NO_QUOTIENT)
-    }
+    x.checked_rem(y).ok_or(Stop::NoQuotient)
 }
 
 fn add(v: u64, x: u32, y: u32) -> u32
     requires { Sized v }
     ensures { result ≡ cut (width_in v) (x + y) }
 {
-    cut_by(wide(x) + wide(y), mask_in(v))
+    cut_by(u64::from(x) + u64::from(y), mask_in(v))
 }
 
 // 256 ^ 4 is added before the cut, so that nothing goes below zero: every range divides it.
@@ -208,14 +204,14 @@ fn subtract(v: u64, x: u32, y: u32) -> u32
     requires { Sized v × (y < 256 ^ width_in v) }
     ensures { result ≡ cut (width_in v) (x + (256 ^ width_in v - y)) }
 {
-    cut_by(wide(x) + (WORD - wide(y)), mask_in(v))
+    cut_by(u64::from(x) + (WORD - u64::from(y)), mask_in(v))
 }
 
 fn multiply(v: u64, x: u32, y: u32) -> u32
     requires { Sized v }
     ensures { result ≡ cut (width_in v) (x * y) }
 {
-    cut_by(wide(x) * wide(y), mask_in(v))
+    cut_by(u64::from(x) * u64::from(y), mask_in(v))
 }
 
 // The signed order.
@@ -227,39 +223,40 @@ fn less(v: u64, x: u32, y: u32) -> bool
     bias(w, x) < bias(w, y)
 }
 
-// Operation op on two integers of the width that v has.
-pub fn compute(op: u32, v: u64, x: u32, y: u32) -> Number
+// An operation on two integers of the width that v has.
+#[tactic(auto, unfolding(rules::specs::Arithmetic::operation_of, rules::specs::Arithmetic::operated))]
+pub fn compute(operation: Operation, v: u64, x: u32, y: u32) -> Result<u32, Stop>
     requires { Sized v × (y < 256 ^ width_in v) }
-    ensures { computed_of result ≡ operated (operation_of op) (width_in v) x y }
+    ensures { computed_of result ≡ operated (operation_of (operation_number operation)) (width_in v) x y }
 {
-    match op {
-        0 => Number::Is(add(v, x, y)),
-        1 => Number::Is(subtract(v, x, y)),
-        2 => Number::Is(multiply(v, x, y)),
-        3 => Number::Is(x & y),
-        4 => Number::Is(x | y),
-        5 => Number::Is(x ^ y),
-        6 => shift_left(v, x, y),
-        7 => shift_right(v, x, y),
-        8 => quotient(x, y),
-        9 => remainder(x, y),
-        10 => nearest(x, y),
-        11 => flag_of(x == y),
-        12 => flag_of(x < y),
-        13 => flag_of(less(v, x, y)),
-        _ => Number::Stop(0),
+    match operation {
+        Operation::Add => Ok(add(v, x, y)),
+        Operation::Subtract => Ok(subtract(v, x, y)),
+        Operation::Multiply => Ok(multiply(v, x, y)),
+        Operation::And => Ok(x & y),
+        Operation::Or => Ok(x | y),
+        Operation::Xor => Ok(x ^ y),
+        Operation::ShiftLeft => shift_left(v, x, y),
+        Operation::ShiftRight => shift_right(v, x, y),
+        Operation::Quotient => quotient(x, y),
+        Operation::Remainder => remainder(x, y),
+        Operation::Nearest => nearest(x, y),
+        Operation::Equal => Ok(flag(x == y)),
+        Operation::Less => Ok(flag(x < y)),
+        Operation::LessSigned => Ok(flag(less(v, x, y))),
     }
 }
 
 // x of w bytes with its sign, cut to the width whose largest number is m.
+#[tactic(auto, unfolding(rules::specs::Arithmetic::sign_extended))]
 pub fn extend(m: u32, w: u64, x: u32) -> u32
     requires { IsWidth w }
     ensures { (u : ℕ) → IsWidth u → m + 1 ≡ 256 ^ u → result ≡ sign_extended u w x }
 {
     let past = range(w);
-    if 2 * wide(x) < past {
-        cut_by(wide(x), m)
+    if 2 * u64::from(x) < past {
+        cut_by(u64::from(x), m)
     } else {
-        cut_by(wide(x) + (WORD - past), m)
+        cut_by(u64::from(x) + (WORD - past), m)
     }
 }

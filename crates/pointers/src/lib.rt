@@ -18,7 +18,7 @@ use effects::Next;
 use effects::apply::stop;
 use effects::parts::{immediate_of, region_term, region_variable, register_b, target_term};
 use effects::registers::register;
-use rules::limits::CHECK_FAILS;
+use rules::stop::Stop;
 use state::fields::region_of;
 use state::{Machine, RegionVariable};
 use terms::{Live, UNTYPED};
@@ -97,13 +97,13 @@ pub fn check(
 {
     let a = register(s, t, register_b(w));
     if a == 0 {
-        return stop(s, t, CHECK_FAILS);
+        return stop(s, t, Stop::CheckFails);
     }
     let x = code[t.at + 1];
     if stands_at(w, x, file, terms, structs, extents, s, t.frame, a) {
         Next::Put(a)
     } else {
-        stop(s, t, CHECK_FAILS)
+        stop(s, t, Stop::CheckFails)
     }
 }
 
@@ -114,7 +114,7 @@ pub fn check_bytes(w: u64, s: &mut [u8], t: Machine) -> Next
 {
     let z = register(s, t, register_b(w));
     if z == 0 {
-        return stop(s, t, CHECK_FAILS);
+        return stop(s, t, Stop::CheckFails);
     }
     let r = entry(s, t.frame, region_variable(w));
     let owner = state::total::owner(s, z / Machine::PAGE_BYTES);
@@ -122,6 +122,6 @@ pub fn check_bytes(w: u64, s: &mut [u8], t: Machine) -> Next
     if runs::in_untyped(Live(r), owner, UNTYPED, z, n) {
         Next::Put(z)
     } else {
-        stop(s, t, CHECK_FAILS)
+        stop(s, t, Stop::CheckFails)
     }
 }

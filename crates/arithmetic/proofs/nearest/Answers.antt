@@ -1,9 +1,10 @@
 -- `arithmetic::nearest` meets its contract: the divisor has a magnitude above zero, and the quotient is at most 256 to the 4.
+use mathlib.Core.Path.{sym, ap, ◌∙◌}
 use Prim.Native.Nat.{◌<◌, ◌≤◌}
 use native.Mathlib.Omega.{arith}
-use borrow.Author.Tests.{lt-ltb, le-ltb}
-use Rattle.rules.specs.Arithmetic.{signed_by, nearest_by}
-use Rattle.arithmetic.specs.Laws.{nearest_le, nearest_means, magnitude_pos}
+use borrow.Author.Tests.{le-ltb}
+use Rattle.rules.specs.Arithmetic.{value, nearest_by}
+use Rattle.arithmetic.specs.Laws.{nearest_le, nearest_means, same_side, other_side, magnitude_pos}
 use borrow.Author.Rules.{rules}
 use Rattle.arithmetic.proofs.nearest.Goals as goal
 
@@ -20,21 +21,8 @@ nonzero_div-n c = let h : 0 < c.magnitude_of-q.result = rw c.magnitude_of-q.ensu
 pub negated-requires : goal.negated-requires
 negated-requires c = rw c.dividend.ensures (nearest_le c.magnitude_of-p.result c.magnitude_of-q.result (omega arith) (rw c.magnitude_of-q.ensures.0 (magnitude_pos _ c.if-y-eq0.false (search rules))))
 
-pub negated-requires-then-y-lt-NEGATIVE-2 : goal.negated-requires-then-y-lt-NEGATIVE-2
-negated-requires-then-y-lt-NEGATIVE-2 c = rw c.dividend.ensures (nearest_le c.magnitude_of-p.result c.magnitude_of-q.result (omega arith) (rw c.magnitude_of-q.ensures.0 (magnitude_pos _ c.if-y-eq0.false (search rules))))
+pub returns-then-x-y : goal.returns-then-x-y
+returns-then-x-y c = nearest_means _ _ c.if-y-eq0.false c.magnitude_of-p.ensures.0 c.magnitude_of-q.ensures.0 c.dividend.ensures (c.positive.ensures ∙ sym (same_side _ _ _ c.if-x-y.true))
 
-pub returns-then-y-lt-NEGATIVE : goal.returns-then-y-lt-NEGATIVE
-unfolding signed_by
-returns-then-y-lt-NEGATIVE c = nearest_means _ _ c.if-y-eq0.false c.magnitude_of-p.ensures.0 c.magnitude_of-q.ensures.0 c.dividend.ensures (lt-ltb _ _ c.if-x-lt-NEGATIVE.true) (lt-ltb _ _ c.if-y-lt-NEGATIVE.true) c.positive.ensures
-
-pub returns-else-y-lt-NEGATIVE : goal.returns-else-y-lt-NEGATIVE
-unfolding signed_by
-returns-else-y-lt-NEGATIVE c = nearest_means _ _ c.if-y-eq0.false c.magnitude_of-p.ensures.0 c.magnitude_of-q.ensures.0 c.dividend.ensures (lt-ltb _ _ c.if-x-lt-NEGATIVE.true) (le-ltb _ _ c.if-y-lt-NEGATIVE.false) c.negated.ensures
-
-pub returns-then-y-lt-NEGATIVE-2 : goal.returns-then-y-lt-NEGATIVE-2
-unfolding signed_by
-returns-then-y-lt-NEGATIVE-2 c = nearest_means _ _ c.if-y-eq0.false c.magnitude_of-p.ensures.0 c.magnitude_of-q.ensures.0 c.dividend.ensures (le-ltb _ _ c.if-x-lt-NEGATIVE.false) (lt-ltb _ _ c.if-y-lt-NEGATIVE-2.true) c.negated-then-y-lt-NEGATIVE-2.ensures
-
-pub returns-else-y-lt-NEGATIVE-2 : goal.returns-else-y-lt-NEGATIVE-2
-unfolding signed_by
-returns-else-y-lt-NEGATIVE-2 c = nearest_means _ _ c.if-y-eq0.false c.magnitude_of-p.ensures.0 c.magnitude_of-q.ensures.0 c.dividend.ensures (le-ltb _ _ c.if-x-lt-NEGATIVE.false) (le-ltb _ _ c.if-y-lt-NEGATIVE-2.false) c.positive-else-y-lt-NEGATIVE-2.ensures
+pub returns-else-x-y : goal.returns-else-x-y
+returns-else-x-y c = nearest_means _ _ c.if-y-eq0.false c.magnitude_of-p.ensures.0 c.magnitude_of-q.ensures.0 c.dividend.ensures (ap value c.negated.ensures ∙ sym (other_side _ _ _ c.if-x-y.false))

@@ -13,12 +13,12 @@ use Rattle.arithmetic.proofs.shift_left.Goals as goal
 pub bits_of-requires : goal.bits_of-requires
 bits_of-requires c = width_taken c.requires c.width_in.ensures
 
-pub returns-then-n-bits_of : goal.returns-then-n-bits_of
+pub returns-then-from-bits_of : goal.returns-then-from-bits_of
 unfolding left_by
-returns-then-n-bits_of c = let h : c.args.y < 8 * width_in c.args.v = omega arith in
-    let k : c.wide-n.result < 32 = omega arith in
-    rw (lt-ltb _ _ h) (ap value (c.cut_by.ensures _ c.requires.width (mask_taken c.requires c.mask_in.ensures) ∙ rw (shl_exact {a = c.wide.result} 32 c.wide-n.result 64 (search rules) (omega arith)) (cc)))
+returns-then-from-bits_of c = let h : c.args.y < 8 * width_in c.args.v = omega arith in
+    let k : c.args.y < 32 = omega arith in
+    rw (lt-ltb _ _ h) (ap value (c.cut_by.ensures _ c.requires.width (mask_taken c.requires c.mask_in.ensures) ∙ rw (shl_exact {a = c.from-then-from-bits_of.result} 32 c.args.y 64 (search rules) (omega arith)) (cc)))
 
-pub returns-else-n-bits_of : goal.returns-else-n-bits_of
+pub returns-else-from-bits_of : goal.returns-else-from-bits_of
 unfolding left_by
-returns-else-n-bits_of c = let h : 8 * width_in c.args.v ≤ c.args.y = omega arith in simp (le-ltb _ _ h)
+returns-else-from-bits_of c = let h : 8 * width_in c.args.v ≤ c.args.y = omega arith in simp (le-ltb _ _ h)

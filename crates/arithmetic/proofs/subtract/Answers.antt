@@ -7,4 +7,4 @@ use Rattle.arithmetic.proofs.subtract.Goals as goal
 pub returns : goal.returns
 returns c = let p = c.requires in let a = c.args in
     c.cut_by.ensures _ p.0.width (mask_taken p.0 c.mask_in.ensures)
-    ∙ rw (c.wide.ensures.0, c.wide-2.ensures.0) (cut_wrapped a.x a.y (width_in a.v) p.0.width p.1)
+    ∙ rw (c.from.ensures, c.from-2.ensures) (cut_wrapped a.x a.y (width_in a.v) p.0.width p.1)
