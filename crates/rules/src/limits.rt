@@ -96,22 +96,7 @@ pub const ARGUMENTS: u8 = 35;
 
 // ---- stops
 
-// "31 zero address", "32 kind 22 fails", "33 index not below the count", "34 no page", "35 call with 16 frames"
+// The lowest and the highest number of a stop; each has its name and its sentence in `stop::Stop`.
 pub const ZERO_ADDRESS: u8 = 31;
-
-pub const CHECK_FAILS: u8 = 32;
-
-pub const INDEX_PAST: u8 = 33;
-
-pub const NO_PAGE: u8 = 34;
-
-pub const TOO_DEEP: u8 = 35;
-
-// "36 zero divisor, or signed quotient over i32", "37 shift by the width or more", "38 form ended", "39 output full"
-pub const NO_QUOTIENT: u8 = 36;
-
-pub const SHIFT_PAST: u8 = 37;
-
-pub const FORM_ENDED: u8 = 38;
 
 pub const OUTPUT_FULL: u8 = 39;
