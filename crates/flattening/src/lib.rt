@@ -126,14 +126,14 @@ pub fn term_written(
             struct_written(f, n, number, inside, off, all, subs, spots, at, tab);
         }
         Core::Term(c) => match terms::head_of(f, c) {
-            Head::Arr(many, a) => {
+            Head::Arr { count: many, inner: a } => {
                 copies_written(f, n, k, a, to, off, many, subs, spots, at, tab);
             }
             // an integer has no regions: under one substitution always, it is found alike without reading the file (same_prim, runs)
             Head::Int(_) => put(subs, spots, at, c, [0u8; 8], off),
-            Head::Ptr(_, _) => put(subs, spots, at, c, to, off),
-            Head::Struct(_, _, _) => {}
-            Head::Untyped(_, _) => put(subs, spots, at, c, to, off),
+            Head::Ptr { .. } => put(subs, spots, at, c, to, off),
+            Head::Struct { .. } => {}
+            Head::Untyped { .. } => put(subs, spots, at, c, to, off),
         },
     }
 }

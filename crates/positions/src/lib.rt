@@ -213,16 +213,16 @@ fn bare(f: &[u8], p: usize) -> usize
     ensures { Bare f.now p result }
 {
     match terms::head_of(f, p) {
-        Head::Arr(n, a) => {
+        Head::Arr { count: n, inner: a } => {
             if n == 1 {
                 return bare(f, a);
             }
             p
         }
         Head::Int(_) => p,
-        Head::Ptr(_, _) => p,
-        Head::Struct(_, _, _) => p,
-        Head::Untyped(_, _) => p,
+        Head::Ptr { .. } => p,
+        Head::Struct { .. } => p,
+        Head::Untyped { .. } => p,
     }
 }
 
@@ -237,15 +237,15 @@ fn innermost(f: &[u8], n: usize, number: usize, to: [u8; 4]) -> Inner
         let y = walk::file::record_at(f, first + 1);
         let q = bare(f, terms::place_of(n, walk::file::entry_of(y, 0)));
         match terms::head_of(f, q) {
-            Head::Struct(inside, count, d) => {
+            Head::Struct { number: inside, count, regions: d } => {
                 if inside < number {
                     return innermost(f, n, inside, four(d, count, &to));
                 }
             }
             Head::Int(_) => {}
-            Head::Ptr(_, _) => {}
-            Head::Arr(_, _) => {}
-            Head::Untyped(_, _) => {}
+            Head::Ptr { .. } => {}
+            Head::Arr { .. } => {}
+            Head::Untyped { .. } => {}
         }
     }
     Inner {
@@ -261,14 +261,14 @@ fn core_of(f: &[u8], n: usize, p: usize) -> Core
 {
     let c = bare(f, p);
     match terms::head_of(f, c) {
-        Head::Struct(number, count, d) => {
+        Head::Struct { number, count, regions: d } => {
             let x = innermost(f, n, number, own_arguments(d, count));
             Core::Fields(x.number, x.regions)
         }
         Head::Int(_) => Core::Term(c),
-        Head::Ptr(_, _) => Core::Term(c),
-        Head::Arr(_, _) => Core::Term(c),
-        Head::Untyped(_, _) => Core::Term(c),
+        Head::Ptr { .. } => Core::Term(c),
+        Head::Arr { .. } => Core::Term(c),
+        Head::Untyped { .. } => Core::Term(c),
     }
 }
 
@@ -321,7 +321,7 @@ fn term_prim(
             struct_prim(f, n, number, inside, off, i, tab)
         }
         Core::Term(c) => match terms::head_of(f, c) {
-            Head::Arr(_, a) => {
+            Head::Arr { inner: a, .. } => {
                 let e = extent_in(tab, a);
                 let size = e.size;
                 let count = e.count;
@@ -331,9 +331,9 @@ fn term_prim(
                 term_prim(f, n, k, a, to, off + i / count * size, i % count, tab)
             }
             Head::Int(_) => Primitive { off, place: c, to },
-            Head::Ptr(_, _) => Primitive { off, place: c, to },
-            Head::Struct(_, _, _) => Primitive { off, place: c, to },
-            Head::Untyped(_, _) => Primitive { off, place: c, to },
+            Head::Ptr { .. } => Primitive { off, place: c, to },
+            Head::Struct { .. } => Primitive { off, place: c, to },
+            Head::Untyped { .. } => Primitive { off, place: c, to },
         },
     }
 }

@@ -1,6 +1,7 @@
 // Type terms read from a module file: document 01, "The module file" and "Flat types". Each contract is an equation with the
 // definitions of `rules`, for all bytes; a term number that names nothing reads as `no_tree`. A term's place is one more than its
-// number, and place 0 is what is not there: so the places inside a term are lower, and a walk along a term ends.
+// number, and place 0 is what is not there (a number, as `tree_at` counts places): so the places inside a term are lower, and a walk along
+// a term ends.
 #![tactic(auto)]
 
 ghost use Rattle.std.specs.Prelude.{◌≡◌, max, suc, ◌+◌, ◌*◌, ◌<◌, ◌≤◌, length};
@@ -24,20 +25,33 @@ use rules::limits::SIZE_LIMIT;
 pub enum Head {
     // an integer of so many bytes
     Int(usize),
-    // a pointer to a place, in a region
-    Ptr(usize, usize),
-    // so many of a place
-    Arr(usize, usize),
-    // a struct, for so many regions, a byte of the number each
-    Struct(usize, usize, usize),
+    // a pointer to the place inside, in a region
+    Ptr {
+        inner: usize,
+        region: usize,
+    },
+    // so many of the place inside
+    Arr {
+        count: usize,
+        inner: usize,
+    },
+    // a struct, for so many regions, a byte of `regions` each
+    Struct {
+        number: usize,
+        count: usize,
+        regions: usize,
+    },
     // a pointer to so many untyped bytes, in a region
-    Untyped(usize, usize),
+    Untyped {
+        bytes: usize,
+        region: usize,
+    },
 }
 
 // The type of a region is an entry of record 8: a term, or this, of an untyped region.
 pub const UNTYPED: usize = 255;
 
-// The size of what has none: one more than an object may have.
+// The size of what has none: one more than an object may have, as the layouts of `rules` have it (`none`, Flat).
 const NO_SIZE: usize = SIZE_LIMIT + 1;
 
 // Size in bytes and number of primitives. The number is exact up to the limit, and one more above.
@@ -60,16 +74,10 @@ pub struct Live(pub u8);
 pub fn wide(x: u8) -> usize
     ensures { (result ≡ x) × (result < 256) }
 {
-    x as usize
+    usize::from(x)
 }
 
-fn wide_word(x: u32) -> usize
-    ensures { (result ≡ x) × (result < 4294967296) }
-{
-    x as usize
-}
-
-// Byte j of the number d, the lowest first; from 3 on the highest.
+// Byte j of the number d, the lowest first; from 3 on the highest. (By `to_le_bytes` it would have to ask for the end of the eight.)
 pub fn digit(d: usize, j: usize) -> usize
     ensures { result ≡ digit d j }
 {
@@ -94,20 +102,29 @@ pub fn place_of(n: usize, t: usize) -> usize
 fn head_from(t: usize, x: Record) -> Head
     ensures { result ≡ head_from t x }
 {
-    let kind = x.kind;
-    if kind == 1 {
-        return Head::Int(wide(x.a));
+    let a = usize::from(x.a);
+    let b = usize::from(x.b);
+    let d = x.d as usize;
+    match x.kind {
+        1 => Head::Int(a),
+        2 => Head::Ptr {
+            inner: place_of(t, a),
+            region: b,
+        },
+        3 => Head::Arr {
+            count: d,
+            inner: place_of(t, a),
+        },
+        11 => Head::Untyped {
+            bytes: d,
+            region: a,
+        },
+        _ => Head::Struct {
+            number: a,
+            count: b,
+            regions: d,
+        },
     }
-    if kind == 2 {
-        return Head::Ptr(place_of(t, wide(x.a)), wide(x.b));
-    }
-    if kind == 3 {
-        return Head::Arr(wide_word(x.d), place_of(t, wide(x.a)));
-    }
-    if kind == 11 {
-        return Head::Untyped(wide_word(x.d), wide(x.a));
-    }
-    Head::Struct(wide(x.a), wide(x.b), wide_word(x.d))
 }
 
 // The head at place p.
@@ -121,16 +138,16 @@ pub fn head_of(f: &[u8], p: usize) -> Head
     }
 }
 
-// A head by numbers: its form, what it writes itself, the place inside, its region, its arguments.
+// A head by numbers: its form (as `form` of `rules` numbers them), what it writes itself, the place inside, its region, its arguments.
 pub fn form_no(h: Head) -> usize
     ensures { result ≡ form_no h }
 {
     match h {
         Head::Int(_) => 1,
-        Head::Ptr(_, _) => 2,
-        Head::Arr(_, _) => 3,
-        Head::Struct(_, _, _) => 4,
-        Head::Untyped(_, _) => 11,
+        Head::Ptr { .. } => 2,
+        Head::Arr { .. } => 3,
+        Head::Struct { .. } => 4,
+        Head::Untyped { .. } => 11,
     }
 }
 
@@ -138,11 +155,11 @@ pub fn main_no(h: Head) -> usize
     ensures { result ≡ main_no h }
 {
     match h {
-        Head::Int(w) => w,
-        Head::Ptr(_, _) => 0,
-        Head::Arr(n, _) => n,
-        Head::Struct(n, _, _) => n,
-        Head::Untyped(n, _) => n,
+        Head::Int(width) => width,
+        Head::Ptr { .. } => 0,
+        Head::Arr { count, .. } => count,
+        Head::Struct { number, .. } => number,
+        Head::Untyped { bytes, .. } => bytes,
     }
 }
 
@@ -150,11 +167,8 @@ pub fn inner_no(h: Head) -> usize
     ensures { result ≡ inner_no h }
 {
     match h {
-        Head::Int(_) => 0,
-        Head::Ptr(a, _) => a,
-        Head::Arr(_, a) => a,
-        Head::Struct(_, _, _) => 0,
-        Head::Untyped(_, _) => 0,
+        Head::Ptr { inner, .. } | Head::Arr { inner, .. } => inner,
+        _ => 0,
     }
 }
 
@@ -162,11 +176,8 @@ pub fn region_no(h: Head) -> usize
     ensures { result ≡ region_no h }
 {
     match h {
-        Head::Int(_) => 255,
-        Head::Ptr(_, r) => r,
-        Head::Arr(_, _) => 255,
-        Head::Struct(_, _, _) => 255,
-        Head::Untyped(_, r) => r,
+        Head::Ptr { region, .. } | Head::Untyped { region, .. } => region,
+        _ => 255,
     }
 }
 
@@ -174,11 +185,8 @@ pub fn args_no(h: Head) -> usize
     ensures { result ≡ args_no h }
 {
     match h {
-        Head::Int(_) => 0,
-        Head::Ptr(_, _) => 0,
-        Head::Arr(_, _) => 0,
-        Head::Struct(_, n, _) => n,
-        Head::Untyped(_, _) => 0,
+        Head::Struct { count, .. } => count,
+        _ => 0,
     }
 }
 
@@ -186,29 +194,22 @@ pub fn word_no(h: Head) -> usize
     ensures { result ≡ word_no h }
 {
     match h {
-        Head::Int(_) => 0,
-        Head::Ptr(_, _) => 0,
-        Head::Arr(_, _) => 0,
-        Head::Struct(_, _, d) => d,
-        Head::Untyped(_, _) => 0,
+        Head::Struct { regions, .. } => regions,
+        _ => 0,
     }
 }
 
 // ---- extents: size and number of primitives
 
-fn over() -> Extent
-    ensures { result ≡ over }
-{
-    Extent {
-        size: NO_SIZE,
-        count: 0,
-    }
-}
+const NO_EXTENT: Extent = Extent {
+    size: NO_SIZE,
+    count: 0,
+};
 
 fn cap(c: usize) -> usize
     ensures { (result ≡ cap c) × (result ≤ suc size_limit) }
 {
-    if c <= SIZE_LIMIT { c } else { NO_SIZE }
+    c.min(NO_SIZE)
 }
 
 // One after the other, and n times the same.
@@ -218,7 +219,7 @@ fn plus(d: Extent, e: Extent) -> Extent
 {
     let size = d.size + e.size;
     if size > SIZE_LIMIT {
-        return over();
+        return NO_EXTENT;
     }
     Extent {
         size,
@@ -232,7 +233,7 @@ fn times(n: usize, e: Extent) -> Extent
 {
     let size = n * e.size;
     if size > SIZE_LIMIT {
-        return over();
+        return NO_EXTENT;
     }
     Extent {
         size,
@@ -247,17 +248,11 @@ pub fn term_extent(f: &[u8], n: usize, k: usize, p: usize) -> Extent
     ensures { (result ≡ term_extent f.now k p) × (Small result) }
 {
     match head_of(f, p) {
-        Head::Int(w) => Extent { size: w, count: 1 },
-        Head::Ptr(_, _) => Extent { size: 4, count: 1 },
-        Head::Arr(c, a) => times(c, term_extent(f, n, k, a)),
-        Head::Struct(number, _, _) => {
-            if number < k {
-                struct_extent(f, n, number)
-            } else {
-                over()
-            }
-        }
-        Head::Untyped(_, _) => Extent { size: 4, count: 1 },
+        Head::Int(size) => Extent { size, count: 1 },
+        Head::Ptr { .. } | Head::Untyped { .. } => Extent { size: 4, count: 1 },
+        Head::Arr { count, inner } => times(count, term_extent(f, n, k, inner)),
+        Head::Struct { number, .. } if number < k => struct_extent(f, n, number),
+        Head::Struct { .. } => NO_EXTENT,
     }
 }
 
@@ -270,17 +265,14 @@ pub fn struct_extent(f: &[u8], n: usize, number: usize) -> Extent
     let first = n + 2 * number;
     let x = walk::file::record_at(f, first);
     let y = walk::file::record_at(f, first + 1);
-    let fields = wide(x.b);
     let mut sum = Extent { size: 0, count: 0 };
-    let mut i = 0;
-    while i < fields {
+    for i in 0..usize::from(x.b) {
         let p = place_of(n, walk::file::entry_of(y, i));
         let e = term_extent(f, n, number, p);
         sum = plus(sum, e);
         if sum.size > SIZE_LIMIT {
-            return over();
+            return NO_EXTENT;
         }
-        i += 1;
     }
     sum
 }
@@ -300,7 +292,7 @@ pub fn extent_of_struct(f: &[u8], n: usize, k: usize, number: usize) -> Extent
     if number < k {
         struct_extent(f, n, number)
     } else {
-        over()
+        NO_EXTENT
     }
 }
 
@@ -310,21 +302,10 @@ pub fn extent_of_struct(f: &[u8], n: usize, k: usize, number: usize) -> Extent
 pub fn live_of(map: &[u8], v: Variable) -> Live
     ensures { result.0 ≡ byte_under map.now v.0 }
 {
-    let i = wide(v.0);
-    if i < map.len() {
-        Live(map[i])
-    } else {
-        Live(255)
-    }
+    Live(map.get(usize::from(v.0)).copied().unwrap_or(255))
 }
 
 // ---- regions used
-
-fn larger(a: usize, b: usize) -> usize
-    ensures { result ≡ max a b }
-{
-    if a < b { b } else { a }
-}
 
 // One more than the highest of the first n regions that d holds.
 fn args_bound(d: usize, n: usize) -> usize
@@ -332,10 +313,8 @@ fn args_bound(d: usize, n: usize) -> usize
     ensures { result ≡ bound_of (args_of d n) }
 {
     let mut best = 0;
-    let mut i = 0;
-    while i < n {
-        best = larger(best, digit(d, i) + 1);
-        i += 1;
+    for i in 0..n {
+        best = best.max(digit(d, i) + 1);
     }
     best
 }
@@ -345,11 +324,9 @@ fn head_bound(h: Head) -> usize
     ensures { result ≡ head_bound h }
 {
     match h {
-        Head::Int(_) => 0,
-        Head::Ptr(_, r) => r + 1,
-        Head::Arr(_, _) => 0,
-        Head::Struct(_, n, d) => args_bound(d, n),
-        Head::Untyped(_, r) => r + 1,
+        Head::Ptr { region, .. } | Head::Untyped { region, .. } => region + 1,
+        Head::Struct { count, regions, .. } => args_bound(regions, count),
+        _ => 0,
     }
 }
 
@@ -362,7 +339,7 @@ pub fn bound(f: &[u8], n: usize, t: usize) -> usize
     let mut i = place_of(n, t);
     while i > 0 {
         let x = head_of(f, i);
-        best = larger(best, head_bound(x));
+        best = best.max(head_bound(x));
         i = inner_no(x);
     }
     best
@@ -386,20 +363,13 @@ pub fn head_term(f: &[u8], n: usize, t: usize) -> Head
     head_of(f, place_of(n, t))
 }
 
-// The form of a term whose record has this kind: 1 integer, 2 pointer, 3 array, 4 struct, 11 untyped pointer.
+// The form of a term whose record has this kind: 1 integer, 2 pointer, 3 array, 4 struct, 11 untyped pointer (the numbers of `form` in `rules`).
 fn form_by(kind: u8) -> usize
     ensures { result ≡ form_by kind }
 {
-    if kind == 1 {
-        1
-    } else if kind == 2 {
-        2
-    } else if kind == 3 {
-        3
-    } else if kind == 11 {
-        11
-    } else {
-        4
+    match kind {
+        1 | 2 | 3 | 11 => usize::from(kind),
+        _ => 4,
     }
 }
 
@@ -445,7 +415,7 @@ pub fn is_integer(f: &[u8], n: usize, t: usize, width: usize) -> bool
     if t < n {
         let kind = walk::file::byte_at(f, t, 0);
         let a = walk::file::byte_at(f, t, 1);
-        (kind == 1) & (wide(a) == width)
+        (kind == 1) & (usize::from(a) == width)
     } else {
         1 == width
     }

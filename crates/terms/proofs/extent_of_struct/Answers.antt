@@ -8,4 +8,4 @@ pub returns-then-number-k : goal.returns-then-number-k
 returns-then-number-k c = let a = c.args in (c.struct_extent.ensures.0 ∙ extent_struct a.f.now a.n a.k c.requires a.number c.if-number-k.true, c.struct_extent.ensures.1)
 
 pub returns-else-number-k : goal.returns-else-number-k
-returns-else-number-k c = let a = c.args in (c.over.ensures ∙ extent_no_struct a.f.now a.n a.k c.requires a.number c.if-number-k.false, rw c.over.ensures (omega arith, omega arith))
+returns-else-number-k c = let a = c.args in (extent_no_struct a.f.now a.n a.k c.requires a.number c.if-number-k.false, (omega arith, omega arith))

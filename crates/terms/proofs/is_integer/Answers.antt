@@ -10,7 +10,7 @@ use Rattle.terms.proofs.is_integer.Goals as goal
 pub returns-then-t-n : goal.returns-then-t-n
 returns-then-t-n c =
     let a = c.args in
-    ap₂ (λ (x y : ℕ). eqb x 1 && eqb y a.width) c.byte_at-kind.ensures (c.wide.ensures.0 ∙ c.byte_at-a.ensures)
+    ap₂ (λ (x y : ℕ). eqb x 1 && eqb y a.width) c.byte_at-kind.ensures (c.from.ensures ∙ c.byte_at-a.ensures)
     ∙ integer_in a.f.now (λ i. omega (arith, c.type_inv.f i)) a.n c.requires a.t c.if-t-n.true a.width
 
 pub returns-else-t-n : goal.returns-else-t-n

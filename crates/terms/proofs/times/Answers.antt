@@ -2,18 +2,11 @@
 use Prim.Native.Nat.{◌<◌, ◌≤◌, ◌*◌}
 use Rattle.terms.specs.ExtentLaws.{times_over, times_fits}
 use mathlib.Core.Path.{sym, ◌∙◌}
-use native.Mathlib.Nat.{mul-le-mul}
 use native.Mathlib.Omega.{arith}
 use Rattle.terms.proofs.times.Goals as goal
 
-pub overflow_mul-size : goal.overflow_mul-size
-overflow_mul-size c = let a = c.args in let p : a.n ≤ 4294967295 = omega arith in let q : a.e.size ≤ 257 = omega arith in let h : a.n * a.e.size ≤ 4294967295 * 257 = mul-le-mul p q in omega arith
-
 pub returns-then-size-gt-SIZE_LIMIT : goal.returns-then-size-gt-SIZE_LIMIT
-returns-then-size-gt-SIZE_LIMIT c = let a = c.args in let h : 256 < a.n * a.e.size = omega arith in (c.over.ensures ∙ sym (times_over a.n a.e h), rw c.over.ensures (omega arith, omega arith))
-
-pub overflow_mul-n : goal.overflow_mul-n
-overflow_mul-n c = let a = c.args in let p : a.n ≤ 4294967295 = omega arith in let q : a.e.count ≤ 257 = omega arith in let h : a.n * a.e.count ≤ 4294967295 * 257 = mul-le-mul p q in omega arith
+returns-then-size-gt-SIZE_LIMIT c = let a = c.args in let h : 256 < a.n * a.e.size = omega arith in (sym (times_over a.n a.e h), (omega arith, omega arith))
 
 pub returns : goal.returns
 returns c = let a = c.args in let h : a.n * a.e.size ≤ 256 = omega arith in let e = times_fits a.n a.e h in (sym (e ∙ cc), (omega arith, c.cap.ensures.1))
