@@ -11,8 +11,9 @@ ghost use Rattle.terms.specs.Readers.{entry_type};
 ghost use Rattle.terms.specs.Compare.{byte_under, under};
 ghost use Rattle.equality.specs.Equal.{args_same, heads_same, places_same, Identity};
 
+use std::array;
 use terms::{
-    Head, UNTYPED, args_no, digit, form_no, head_of, inner_no, main_no, place_of, region_no, wide,
+    Head, UNTYPED, args_no, digit, form_no, head_of, inner_no, main_no, place_of, region_no,
     word_no,
 };
 
@@ -20,21 +21,14 @@ use terms::{
 fn region(to: &[u8], v: usize) -> usize
     ensures { result ≡ byte_under to.now v }
 {
-    if v < to.len() { wide(to[v]) } else { 255 }
+    to.get(v).map_or(255, |r| usize::from(*r))
 }
 
 // Whether the first n regions that d and e hold are the same, under p and under q.
 fn same_args(p: &[u8], d: usize, q: &[u8], e: usize, n: usize) -> bool
     ensures { result ≡ args_same p.now d q.now e n }
 {
-    let mut i = 0;
-    while i < n {
-        if region(p, digit(d, i)) != region(q, digit(e, i)) {
-            return false;
-        }
-        i += 1;
-    }
-    true
+    (0..n).all(|i| region(p, digit(d, i)) == region(q, digit(e, i)))
 }
 
 // Whether two heads are the same, but for what is inside.
@@ -57,12 +51,11 @@ pub fn same_places(f: &[u8], a: usize, p: &[u8], b: usize, q: &[u8]) -> bool
     while (i > 0) | (j > 0) {
         let x = head_of(f, i);
         let y = head_of(f, j);
-        if same_head(p, x, q, y) {
-            i = inner_no(x);
-            j = inner_no(y);
-        } else {
+        if !same_head(p, x, q, y) {
             return false;
         }
+        i = inner_no(x);
+        j = inner_no(y);
     }
     true
 }
@@ -79,13 +72,7 @@ pub fn same(f: &[u8], n: usize, a: usize, p: &[u8], b: usize, q: &[u8]) -> bool
 fn identity() -> [u8; 256]
     ensures { Identity result }
 {
-    let mut r = [255u8; 256];
-    let mut i = 0;
-    while i < 256 {
-        r[i] = i as u8;
-        i += 1;
-    }
-    r
+    array::from_fn(|r| r as u8)
 }
 
 // Whether terms a and b are equal as they are written.

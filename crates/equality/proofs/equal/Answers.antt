@@ -1,14 +1,10 @@
 -- `equality::equal` meets its contract: a term is equal to itself, and under the identity it is itself.
-use Rattle.words.specs.Decide.{does, true_does}
+use Rattle.words.specs.Decide.{does}
 use Rattle.rules.specs.Types.{variable, Tree, dec_tree}
 use Rattle.equality.specs.Equal.{term_identity}
-use Rattle.rules.specs.Decode.{module_of}
-use mathlib.Core.Path.{refl, sym, ap₂, ◌∙◌}
+use mathlib.Core.Path.{ap₂, ◌∙◌}
 use native.Mathlib.Omega.{arith}
 use Rattle.equality.proofs.equal.Goals as goal
-
-pub returns-then-a-b : goal.returns-then-a-b
-returns-then-a-b c = let a = c.args in rw c.if-a-b.true (sym (true_does (dec_tree ((module_of a.f.now).term a.b) ((module_of a.f.now).term a.b)) refl))
 
 pub returns : goal.returns
 returns c = let a = c.args in
