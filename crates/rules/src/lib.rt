@@ -18,7 +18,7 @@ pub struct Counts {
 }
 
 // A record of the file: byte 0, bytes 1 to 3, bytes 4 to 7.
-#[derive(Clone, Copy, Default)]
+#[derive(Clone, Copy, PartialEq, Eq, Default)]
 pub struct Record {
     pub kind: u8,
     pub a: u8,
