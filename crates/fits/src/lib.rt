@@ -15,70 +15,35 @@ use operands::{
     CLASS_COUNT, below_limits, classes, four, four_loose, operand_fits, seven, seven_loose,
 };
 use rules::limits::{
-    ARGUMENTS, ARRAY, CALLEES, FIELDS, FILLER, FUNCTION, INTEGER, MOST_ENTRIES, MOST_FUNCTIONS,
+    ARGUMENTS, ARRAY, CALLEES, FIELDS, FUNCTION, INTEGER, MOST_ENTRIES, MOST_FUNCTIONS,
     MOST_INSTRUCTIONS, MOST_REGION_PARAMS, MOST_REGIONS, MOST_REGISTERS, MOST_STRUCTS, MOST_TERMS,
     NAME, POINTER, REGIONS, REGISTERS, SIZE_LIMIT, STRUCT,
 };
 use rules::{Phase, Record, Walk};
+use walk::file::{instructions_of, parameters_of, regions_of, return_of};
 use walk::run::counted_only;
+use walk::step::{is_instruction, is_term};
+use walk::tables::head_of;
 
 // ---- where a table ends
 
 fn names_end(t: Walk) -> bool
     ensures { result ≡ names_end t }
 {
-    let p = t.phase;
-    if 0 < t.functions {
-        true
-    } else {
-        match p {
-            Phase::Terms => true,
-            Phase::Names => true,
-            Phase::Fields => false,
-            Phase::Functions => true,
-            Phase::Regions => true,
-            Phase::Registers => true,
-            Phase::Code => true,
-            Phase::Arguments => true,
-            Phase::Filler => true,
-            Phase::Broken => false,
-        }
-    }
+    (0 < t.functions) | !matches!(t.phase, Phase::Fields | Phase::Broken)
 }
 
 fn is_end(p: Phase) -> bool
     ensures { result ≡ is_end p }
 {
-    match p {
-        Phase::Terms => false,
-        Phase::Names => false,
-        Phase::Fields => false,
-        Phase::Functions => true,
-        Phase::Regions => false,
-        Phase::Registers => false,
-        Phase::Code => false,
-        Phase::Arguments => false,
-        Phase::Filler => true,
-        Phase::Broken => false,
-    }
+    matches!(p, Phase::Functions | Phase::Filler)
 }
 
 // A file may end here, or nothing is known.
 pub fn end_fits(p: Phase) -> bool
     ensures { result ≡ end_fits p }
 {
-    match p {
-        Phase::Terms => false,
-        Phase::Names => false,
-        Phase::Fields => false,
-        Phase::Functions => true,
-        Phase::Regions => false,
-        Phase::Registers => false,
-        Phase::Code => false,
-        Phase::Arguments => false,
-        Phase::Filler => true,
-        Phase::Broken => true,
-    }
+    matches!(p, Phase::Functions | Phase::Filler | Phase::Broken)
 }
 
 // ---- terms, names and functions
@@ -86,83 +51,79 @@ pub fn end_fits(p: Phase) -> bool
 pub fn is_filler(x: Record) -> bool
     ensures { result ≡ is_filler x }
 {
-    (((x.kind == FILLER) & (x.a == 0)) & ((x.b == 0) & (x.c == 0))) & (x.d == 0)
+    x == Record::default()
 }
 
 fn integer_fits(x: Record) -> bool
     ensures { result ≡ integer_fits x }
 {
-    ((x.a == 1) | ((x.a == 2) | (x.a == 4))) & (((x.b == 0) & (x.c == 0)) & (x.d == 0))
+    matches!(x.a, 1 | 2 | 4) & (((x.b == 0) & (x.c == 0)) & (x.d == 0))
 }
 
 fn pointer_fits(w: Walk, x: Record) -> bool
     ensures { result ≡ pointer_fits w x }
 {
-    (((x.a as usize) < w.terms) & ((x.b as usize) < MOST_REGIONS)) & ((x.c == 0) & (x.d == 0))
+    ((usize::from(x.a) < w.terms) & (usize::from(x.b) < MOST_REGIONS)) & ((x.c == 0) & (x.d == 0))
 }
 
 fn array_fits(w: Walk, x: Record) -> bool
     ensures { result ≡ array_fits w x }
 {
-    (((x.a as usize) < w.terms) & ((1 <= x.d) & (x.d <= SIZE_LIMIT as u32)))
+    ((usize::from(x.a) < w.terms) & ((1 <= x.d) & (x.d <= SIZE_LIMIT as u32)))
         & ((x.b == 0) & (x.c == 0))
 }
 
 fn struct_fits(end: Walk, x: Record) -> bool
     ensures { result ≡ struct_fits end x }
 {
-    let ended = names_end(end);
-    let regions = four(x, x.b as usize, MOST_REGIONS);
-    ((((x.a as usize) < end.names) | !ended) & (x.b <= MOST_REGION_PARAMS)) & ((x.c == 0) & regions)
+    (((usize::from(x.a) < end.names) | !names_end(end)) & (x.b <= MOST_REGION_PARAMS))
+        & ((x.c == 0) & four(x, usize::from(x.b), MOST_REGIONS))
 }
 
 fn term_fits(end: Walk, w: Walk, x: Record) -> bool
     ensures { result ≡ term_fits end w x }
 {
-    let integer = integer_fits(x);
-    let pointer = pointer_fits(w, x);
-    let array = array_fits(w, x);
-    let named = struct_fits(end, x);
-    let k = x.kind;
     (w.terms < MOST_TERMS)
-        & ((((k == INTEGER) & integer) | ((k == POINTER) & pointer))
-            | (((k == ARRAY) & array) | ((k == STRUCT) & named)))
+        & match x.kind {
+            INTEGER => integer_fits(x),
+            POINTER => pointer_fits(w, x),
+            ARRAY => array_fits(w, x),
+            STRUCT => struct_fits(end, x),
+            _ => false,
+        }
 }
 
 fn name_fits(w: Walk, x: Record) -> bool
     ensures { result ≡ name_fits w x }
 {
     ((w.names < MOST_STRUCTS) & (x.kind == NAME))
-        & (((x.a <= MOST_REGION_PARAMS) & ((1 <= x.b) & ((x.b as usize) <= MOST_ENTRIES)))
+        & (((x.a <= MOST_REGION_PARAMS) & ((1 <= x.b) & (usize::from(x.b) <= MOST_ENTRIES)))
             & ((x.c == 0) & (x.d == 0)))
 }
 
 fn head_ranges(x: Record) -> bool
     ensures { result ≡ head_ranges x }
 {
-    let regions = walk::file::regions_of(x);
-    let parameters = walk::file::parameters_of(x);
-    let instructions = walk::file::instructions_of(x);
-    (((x.a <= MOST_REGION_PARAMS) & (regions <= MOST_REGIONS))
+    let parameters = parameters_of(x);
+    let instructions = instructions_of(x);
+    (((x.a <= MOST_REGION_PARAMS) & (regions_of(x) <= MOST_REGIONS))
         & ((1 <= x.c) & (x.c <= MOST_REGISTERS)))
-        & (((parameters <= MOST_ENTRIES) & (parameters <= (x.c as usize)))
+        & (((parameters <= MOST_ENTRIES) & (parameters <= usize::from(x.c)))
             & ((1 <= instructions) & (instructions <= MOST_INSTRUCTIONS)))
 }
 
 fn function_fits(w: Walk, x: Record) -> bool
     ensures { result ≡ function_fits w x }
 {
-    let result = walk::file::return_of(x);
-    let ranges = head_ranges(x);
-    ((w.functions < MOST_FUNCTIONS) & ((x.kind == FUNCTION) & (result < w.terms))) & ranges
+    ((w.functions < MOST_FUNCTIONS) & ((x.kind == FUNCTION) & (return_of(x) < w.terms)))
+        & head_ranges(x)
 }
 
 // A record of kind k with the terms still to come.
 fn list_fits(k: u8, w: Walk, x: Record) -> bool
     ensures { result ≡ list_fits k w x }
 {
-    let terms = seven(x, w.left, w.terms);
-    (x.kind == k) & terms
+    (x.kind == k) & seven(x, w.left, w.terms)
 }
 
 // ---- code
@@ -172,9 +133,9 @@ fn region_bytes_fit(f: &[u8], starts: &[usize; CALLEES], end: Walk, w: Walk, x: 
     requires fact_2 { end ≡ (whole f.now).walk }
     ensures { result ≡ region_bytes_fit f.now (whole f.now) w x }
 {
-    if (x.b as usize) < end.functions {
-        let h = walk::tables::head_of(f, starts, x.b as usize);
-        four(x, h.a as usize, w.regions)
+    if usize::from(x.b) < end.functions {
+        let h = head_of(f, starts, usize::from(x.b));
+        four(x, usize::from(h.a), w.regions)
     } else {
         four_loose(x, w.regions)
     }
@@ -184,9 +145,7 @@ fn callee_fits(f: &[u8], end: Walk, x: Record) -> bool
     requires { end ≡ (whole f.now).walk }
     ensures { result ≡ callee_fits (whole f.now) x }
 {
-    let p = end.phase;
-    let ended = is_end(p);
-    ((x.b as usize) < end.functions) | !ended
+    (usize::from(x.b) < end.functions) | !is_end(end.phase)
 }
 
 fn instruction_fits(f: &[u8], starts: &[usize; CALLEES], end: Walk, w: Walk, x: Record) -> bool
@@ -194,40 +153,35 @@ fn instruction_fits(f: &[u8], starts: &[usize; CALLEES], end: Walk, w: Walk, x: 
     requires fact_2 { end ≡ (whole f.now).walk }
     ensures { result ≡ instruction_fits f.now (whole f.now) w x }
 {
-    let known = walk::step::is_instruction(x.kind);
-    let k = classes(x.kind);
+    let [a, b, c, d] = classes(x.kind);
     let callee = callee_fits(f, end, x);
     let regions = region_bytes_fit(f, starts, end, w, x);
-    known
-        & ((operand_fits(
-            k % 8,
-            x.a as usize,
-            w.registers,
-            w.instructions,
-            false,
-            false,
-        ) & operand_fits(
-            k / 8 % 8,
-            x.b as usize,
-            w.registers,
-            w.instructions,
-            callee,
-            false,
-        )) & (operand_fits(
-            k / 64 % 8,
-            x.c as usize,
-            w.registers,
-            w.instructions,
-            false,
-            false,
-        ) & operand_fits(
-            k / 512,
-            x.d as usize,
-            w.registers,
-            w.instructions,
-            false,
-            regions,
-        )))
+    let a = operand_fits(
+        a,
+        usize::from(x.a),
+        w.registers,
+        w.instructions,
+        false,
+        false,
+    );
+    let b = operand_fits(
+        b,
+        usize::from(x.b),
+        w.registers,
+        w.instructions,
+        callee,
+        false,
+    );
+    let c = operand_fits(
+        c,
+        usize::from(x.c),
+        w.registers,
+        w.instructions,
+        false,
+        false,
+    );
+    let d = operand_fits(d, x.d as usize, w.registers, w.instructions, false, regions);
+    is_instruction(x.kind) & ((a & b) & (c & d))
 }
 
 // An instruction that the walk counts and no more, with so many to come, whose operands are below their limits.
@@ -244,15 +198,12 @@ fn arguments_fit(f: &[u8], starts: &[usize; CALLEES], end: Walk, w: Walk, x: Rec
     ensures { result ≡ arguments_fit f.now (whole f.now) w x }
 {
     let g = w.callee;
-    if g < end.functions {
-        let h = walk::tables::head_of(f, starts, g);
-        let n = walk::file::parameters_of(h);
-        let registers = seven(x, n, w.registers);
-        (x.kind == ARGUMENTS) & registers
-    } else {
-        let registers = seven_loose(x, w.registers);
-        (x.kind == ARGUMENTS) & registers
-    }
+    (x.kind == ARGUMENTS)
+        & if g < end.functions {
+            seven(x, parameters_of(head_of(f, starts, g)), w.registers)
+        } else {
+            seven_loose(x, w.registers)
+        }
 }
 
 // ---- by the walk's phase
@@ -270,7 +221,7 @@ fn name_or_function_fits(w: Walk, x: Record) -> bool
 fn first_fits(end: Walk, w: Walk, x: Record) -> bool
     ensures { result ≡ cond (is_term x.kind) (term_fits end w x) (cond (eqb x.kind kind_name) (name_fits w x) (function_fits w x)) }
 {
-    if walk::step::is_term(x.kind) {
+    if is_term(x.kind) {
         term_fits(end, w, x)
     } else {
         name_or_function_fits(w, x)
@@ -294,8 +245,7 @@ pub fn fits(f: &[u8], starts: &[usize; CALLEES], end: Walk, w: Walk, x: Record) 
     requires fact_3 { w.callee < callees }
     ensures { result ≡ fits f.now (whole f.now) w x }
 {
-    let p = w.phase;
-    match p {
+    match w.phase {
         Phase::Terms => first_fits(end, w, x),
         Phase::Names => name_or_function_fits(w, x),
         Phase::Fields => list_fits(FIELDS, w, x),

@@ -4,11 +4,11 @@ use borrow.Author.Tests.{lt-ltb, le-ltb}
 use Rattle.rules.specs.Records.{arguments_fit}
 use Rattle.rules.specs.declared.Walk.{Walk}
 use Rattle.fits.proofs.arguments_fit.Goals as goal
+use Rattle.fits.proofs.arguments_fit.Goals.{then-g-end, else-g-end}
 
-pub returns-then-g-end : goal.returns-then-g-end
+pub returns : goal.returns
 unfolding arguments_fit
-returns-then-g-end c = rw (ap (λ (v : Walk). v.functions) (sym c.requires.fact_2), lt-ltb _ _ c.if-g-end.true, c.seven-registers.ensures, c.parameters_of-n.ensures, c.head_of-h.ensures)
-
-pub returns-else-g-end : goal.returns-else-g-end
-unfolding arguments_fit
-returns-else-g-end c = rw (ap (λ (v : Walk). v.functions) (sym c.requires.fact_2), le-ltb _ _ c.if-g-end.false, c.seven_loose-registers.ensures)
+returns c = elim c.if-g-end.branch [
+  | then-g-end w ↦ rw (ap (λ (v : Walk). v.functions) (sym c.requires.fact_2), lt-ltb _ _ w.if-g-end.true, w.result-is, w.seven.ensures, w.parameters_of.ensures, w.head_of.ensures)
+  | else-g-end w ↦ rw (ap (λ (v : Walk). v.functions) (sym c.requires.fact_2), le-ltb _ _ w.if-g-end.false, w.result-is, w.seven_loose.ensures)
+]

@@ -4,4 +4,4 @@ use Rattle.fits.proofs.function_fits.Goals as goal
 
 pub returns : goal.returns
 unfolding function_fits
-returns c = rw (c.head_ranges-ranges.ensures, c.return_of-result.ensures)
+returns c = rw (c.head_ranges.ensures, c.return_of.ensures)

@@ -4,4 +4,4 @@ use Rattle.fits.proofs.head_ranges.Goals as goal
 
 pub returns : goal.returns
 unfolding head_ranges
-returns c = rw (c.instructions_of-instructions.ensures.0, c.parameters_of-parameters.ensures, c.regions_of-regions.ensures)
+returns c = rw (c.instructions_of-instructions.ensures.0, c.parameters_of-parameters.ensures, c.regions_of.ensures, c.from.ensures)

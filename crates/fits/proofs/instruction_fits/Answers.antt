@@ -1,19 +1,25 @@
 -- `fits::instruction_fits` meets its contract: operand by operand. Assumes nothing.
+use Rattle.operands.specs.Classes.{numbered}
 use Rattle.rules.specs.Records.{instruction_fits}
 use Rattle.fits.proofs.instruction_fits.Goals as goal
 
 pub returns : goal.returns
 unfolding instruction_fits
-returns c = rw (
-  c.operand_fits-4.ensures,
-  c.operand_fits-3.ensures,
-  c.operand_fits-2.ensures,
-  c.operand_fits.ensures,
-  c.region_bytes_fit-regions.ensures,
-  c.callee_fits-callee.ensures,
-  c.is_instruction-known.ensures,
-  c.classes-k.ensures.a,
-  c.classes-k.ensures.b,
-  c.classes-k.ensures.c,
-  c.classes-k.ensures.d,
-)
+returns c =
+    let n = numbered c.classes.ensures in
+    rw (
+      c.operand_fits-d.ensures,
+      c.operand_fits-c.ensures,
+      c.operand_fits-b.ensures,
+      c.operand_fits-a.ensures,
+      c.from-3.ensures,
+      c.from-2.ensures,
+      c.from.ensures,
+      c.region_bytes_fit-regions.ensures,
+      c.callee_fits-callee.ensures,
+      c.is_instruction.ensures,
+      n.a,
+      n.b,
+      n.c,
+      n.d,
+    )

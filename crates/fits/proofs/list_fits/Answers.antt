@@ -4,4 +4,4 @@ use Rattle.fits.proofs.list_fits.Goals as goal
 
 pub returns : goal.returns
 unfolding list_fits
-returns c = rw c.seven-terms.ensures
+returns c = rw c.seven.ensures

@@ -1,8 +1,7 @@
--- `fits::name_fits` meets its contract: the definition as it stands. Assumes nothing.
-use mathlib.Core.Path.{refl}
+-- `fits::name_fits` meets its contract: clause by clause. Assumes nothing.
 use Rattle.rules.specs.Records.{name_fits}
 use Rattle.fits.proofs.name_fits.Goals as goal
 
 pub returns : goal.returns
 unfolding name_fits
-returns c = refl
+returns c = rw c.from.ensures

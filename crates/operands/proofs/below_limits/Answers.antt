@@ -2,15 +2,14 @@
 use mathlib.Core.Path.{ap, ap₂, ◌∙◌}
 use mathlib.Core.Bool.{◌&&◌}
 use lib.Dec.{ltb}
+use Rattle.operands.specs.Classes.{numbered}
 use Rattle.operands.specs.Limits.{limit_in, below_limits}
 use Rattle.operands.proofs.below_limits.Goals as goal
 
 pub returns : goal.returns
 unfolding below_limits
 returns c =
-    let a = c.args in
-    let l = a.limits.now in
-    let x = a.x in
-    let d = c.classes-k.ensures in
-    ap₂ ◌&&◌ (ap₂ ◌&&◌ (ap (ltb x.a) (c.limit-a.ensures ∙ ap (limit_in l) d.a)) (ap (ltb x.b) (c.limit-b.ensures ∙ ap (limit_in l) d.b)))
-    (ap₂ ◌&&◌ (ap (ltb x.c) (c.limit-c.ensures ∙ ap (limit_in l) d.c)) (ap (ltb x.d) (c.limit-d.ensures ∙ ap (limit_in l) d.d)))
+    let l = c.args.limits.now in
+    let n = numbered c.classes.ensures in
+    ap₂ ◌&&◌ (ap₂ ◌&&◌ (ap₂ ltb c.from.ensures (c.limit.ensures ∙ ap (limit_in l) n.a)) (ap₂ ltb c.from-2.ensures (c.limit-2.ensures ∙ ap (limit_in l) n.b)))
+    (ap₂ ◌&&◌ (ap₂ ltb c.from-3.ensures (c.limit-3.ensures ∙ ap (limit_in l) n.c)) (ap (ltb c.args.x.d) (c.limit-4.ensures ∙ ap (limit_in l) n.d)))

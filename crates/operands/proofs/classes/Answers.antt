@@ -1,11 +1,12 @@
--- `operands::classes` meets its contract: its array computes to the definition's table, whose rule is one test of all entries. Assumes nothing.
+-- `operands::classes` meets its contract: its array has the definition's numbers. Assumes nothing.
+use mathlib.Core.Path.{◌∙◌}
 use Rattle.rules.specs.Operands.{operand_table}
-use Rattle.operands.specs.Classes.{packed, entry, past_rows}
+use Rattle.operands.specs.Classes.{table, row_right, past_rows}
 use Rattle.operands.proofs.classes.Goals as goal
 
-pub returns-then-i-lt-KINDS : goal.returns-then-i-lt-KINDS
-unfolding packed operand_table
-returns-then-i-lt-KINDS c = entry _ c.row_of-i.ensures c.if-i-lt-KINDS.true c.wide.ensures
+pub returns-then-row-lt-KINDS : goal.returns-then-row-lt-KINDS
+unfolding table operand_table
+returns-then-row-lt-KINDS c = row_right _ _ (c.from-row.ensures ∙ c.saturating_sub.ensures) c.if-row-lt-KINDS.true
 
-pub returns-else-i-lt-KINDS : goal.returns-else-i-lt-KINDS
-returns-else-i-lt-KINDS c = past_rows _ c.row_of-i.ensures c.if-i-lt-KINDS.false
+pub returns-else-row-lt-KINDS : goal.returns-else-row-lt-KINDS
+returns-else-row-lt-KINDS c = past_rows _ (c.from-row.ensures ∙ c.saturating_sub.ensures) c.if-row-lt-KINDS.false

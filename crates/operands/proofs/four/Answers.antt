@@ -1,7 +1,8 @@
--- `operands::four` meets its contract: entry by entry. Assumes nothing.
-use Rattle.rules.specs.Records.{four}
+-- `operands::four` meets its contract: all of the four bytes of d, in a row. Assumes nothing.
+use mathlib.Core.Path.{◌∙◌}
+use native.Mathlib.Omega.{arith}
+use Rattle.operands.specs.Entries.{slots_four}
 use Rattle.operands.proofs.four.Goals as goal
 
 pub returns : goal.returns
-unfolding four
-returns c = rw (c.slot-4.ensures, c.slot-3.ensures, c.slot-2.ensures, c.slot.ensures)
+returns c = rw c.to_le_bytes.ensures at c.slots.ensures ∙ slots_four c.args.x c.args.n c.args.lim (omega arith)

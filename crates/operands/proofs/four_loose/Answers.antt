@@ -1,7 +1,8 @@
--- `operands::four_loose` meets its contract: entry by entry. Assumes nothing.
-use Rattle.rules.specs.Records.{four_loose}
+-- `operands::four_loose` meets its contract: all of the four bytes of d, in a row. Assumes nothing.
+use mathlib.Core.Path.{◌∙◌}
+use native.Mathlib.Omega.{arith}
+use Rattle.operands.specs.Entries.{loose_four}
 use Rattle.operands.proofs.four_loose.Goals as goal
 
 pub returns : goal.returns
-unfolding four_loose
-returns c = rw (c.loose-4.ensures, c.loose-3.ensures, c.loose-2.ensures, c.loose.ensures)
+returns c = rw c.to_le_bytes.ensures at c.all_loose.ensures ∙ loose_four c.args.x c.args.lim (omega arith)

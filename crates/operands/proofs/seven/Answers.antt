@@ -1,7 +1,7 @@
--- `operands::seven` meets its contract: entry by entry. Assumes nothing.
-use Rattle.rules.specs.Records.{seven}
+-- `operands::seven` meets its contract: all of the seven entries, in a row. Assumes nothing.
+use mathlib.Core.Path.{◌∙◌}
+use Rattle.operands.specs.Entries.{slots_seven}
 use Rattle.operands.proofs.seven.Goals as goal
 
 pub returns : goal.returns
-unfolding seven
-returns c = rw (c.slot-7.ensures, c.slot-6.ensures, c.slot-5.ensures, c.slot-4.ensures, c.slot-3.ensures, c.slot-2.ensures, c.slot.ensures)
+returns c = rw c.entries.ensures at c.slots.ensures ∙ slots_seven c.args.x c.args.n c.args.lim

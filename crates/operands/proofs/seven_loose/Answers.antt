@@ -1,7 +1,7 @@
--- `operands::seven_loose` meets its contract: entry by entry. Assumes nothing.
-use Rattle.rules.specs.Records.{seven_loose}
+-- `operands::seven_loose` meets its contract: all of the seven entries, in a row. Assumes nothing.
+use mathlib.Core.Path.{◌∙◌}
+use Rattle.operands.specs.Entries.{loose_seven}
 use Rattle.operands.proofs.seven_loose.Goals as goal
 
 pub returns : goal.returns
-unfolding seven_loose
-returns c = rw (c.loose-7.ensures, c.loose-6.ensures, c.loose-5.ensures, c.loose-4.ensures, c.loose-3.ensures, c.loose-2.ensures, c.loose.ensures)
+returns c = rw c.entries.ensures at c.all_loose.ensures ∙ loose_seven c.args.x c.args.lim
