@@ -1,6 +1,6 @@
 -- What some rules say of a file: it passes, or is refused. `outcome` is the verdict of stages before what comes behind them; with
 -- `verdict_outcome` code goes on from it. Assumes nothing.
-use Rattle.std.specs.Prelude.{◌≡◌, refl, Bool, true, false, cond, ℕ, ◌+◌, ◌*◌, ◌/◌, ◌%◌, ◌<◌, ◌≤◌, ltb, Result, Ok, Err}
+use Rattle.std.specs.Prelude.{◌≡◌, refl, Bool, true, false, cond, ℕ, ◌+◌, ◌*◌, ◌/◌, ◌%◌, ◌<◌, ◌≤◌, ltb, Result, Ok, Err, Option, Some, None}
 use Rattle.std.proofs.Math.Path.{sym}
 use Rattle.std.proofs.Common.{◌∙◌, arith, lit<, lit≤, lt-ltb, le-ltb, ltb-false, eq-eqb, below_more}
 use mathlib.Core.List.{List, [], ◌∷◌}
@@ -30,6 +30,11 @@ outcome_meant (Err e) = Refused (number_of e) (place_of e)
 unfoldable pub outcome : List Stage → Outcome
 outcome [] = Passed
 outcome (s ∷ ss) = cond (ltb (failure s) s.count) (Refused (s.number (failure s)) (s.place (failure s))) (outcome ss)
+
+-- the first of n tests that fails, if one does
+abbrev pub IsFirst : ℕ → (ℕ → Bool) → Option ℕ → Type 0
+IsFirst n t None = first n t ≡ n
+IsFirst n t (Some p) = (first n t ≡ p) × (p < n)
 
 -- refusals 1, 2 and 3
 unfoldable pub framing_of : Bytes → Outcome
@@ -70,6 +75,13 @@ refuses s ss {p} e h = rw (← e, lt-ltb p s.count h)
 pub none : outcome [] ≡ Passed
 unfolding outcome
 none = refl
+
+-- one stage, by the first of its tests that fails
+pub first_passes : (s : Stage) → IsFirst s.count s.test None → Passed ≡ outcome (s ∷ [])
+first_passes s h = sym (passes s [] (sym h) (omega arith) ∙ none)
+
+pub first_refuses : (s : Stage) {p : ℕ} → IsFirst s.count s.test (Some p) → Refused (s.number p) (s.place p) ≡ outcome (s ∷ [])
+first_refuses s h = sym (refuses s [] (sym h.0) h.1)
 
 -- a stage of one test
 one_passes : (t : ℕ → Bool) → t 0 ≡ true → 1 ≡ first 1 t

@@ -1,7 +1,6 @@
 -- `checker::typed_functions` meets its contract: the functions passed have no failing instruction, and those left decide; of those passed the first whose end refusal 8 finds is known.
 use mathlib.Core.Path.{◌≡◌, sym, ap, ◌∙◌}
 use Prim.Native.Nat.{ℕ, ◌<◌, ◌-◌}
-use Rattle.rules.specs.Limits.{bad_instruction}
 use Rattle.rules.specs.declared.Record.{Record}
 use Rattle.instructions.specs.Scan.{typed_from, typed_passes, typed_refuses, typed_ended}
 use Rattle.functions.specs.Functions.{function_at, start_small, length_at}
@@ -10,26 +9,20 @@ use Rattle.rules.specs.File.{instructions_of}
 use native.Mathlib.Numerals.{add-one}
 use mathlib.Core.Path.{subst}
 use Prim.Native.Nat.{suc, ◌+◌}
-use mathlib.Core.Bool.{Bool, ◌&&◌}
-use lib.Dec.{eqb}
-use borrow.Author.Tests.{eqb-true}
-use Rattle.words.specs.Choose.{both}
-use Rattle.words.specs.First.{first}
 use Rattle.words.specs.FirstLaws.{first_none}
 use Rattle.rules.specs.Decode.{module_of}
 use Rattle.rules.specs.Verdict.{last_test}
-use Rattle.framing.specs.declared.Outcome.TheVariants.{Passed, Refused}
 use Rattle.checker.specs.Rules.{first_goes, first_stays}
 use native.Mathlib.Omega.{arith}
 use Rattle.checker.proofs.typed_functions.Goals as goal
-use Rattle.checker.proofs.typed_functions.Goals.{else-ends-g, then-ends-g}
+use Rattle.checker.proofs.typed_functions.Goals.{then-not-last_ends, else-not-last_ends}
 
 pub loop-g-init : goal.loop-g-init
 loop-g-init c =
     let a = c.args in
     let f = a.f.now in
     let e : a.c - 0 ≡ a.c = omega arith in
-    (omega arith, ap (typed_from f 0) e, c.no_runs-known.ensures f, sym (first_none 0 (last_test (module_of f)) (λ j l. absurd (omega arith))))
+    (ap (typed_from f 0) e, c.no_runs-known.ensures f, first_none 0 (last_test (module_of f)) (λ j l. absurd (omega arith)))
 
 pub start_of-h-requires : goal.start_of-h-requires
 start_of-h-requires c = record { fact_1 = c.requires.fact_1.starts; fact_2 = omega (arith, c.requires.fact_1.few) }
@@ -40,10 +33,10 @@ first_instruction-found-requires c =
     let p = c.requires in
     let g = c.loop-g.g in
     let at = c.start_of-h.ensures in
-    record { fact_1 = p.fact_1; fact_2 = p.fact_2; fact_3 = subst (λ (h : ℕ). Tight (function_at f h)) (sym at) (p.fact_3 g c.loop-g-test.true); fact_4 = omega (arith, at, start_small f p.fact_1.short g); fact_5 = c.loop-g.invariant.2 }
+    record { fact_1 = p.fact_1; fact_2 = p.fact_2; fact_3 = subst (λ (h : ℕ). Tight (function_at f h)) (sym at) (p.fact_3 g c.loop-g-test.true); fact_4 = omega (arith, at, start_small f p.fact_1.short g); fact_5 = c.loop-g.invariant.1 }
 
-pub returns-then-index-count : goal.returns-then-index-count
-returns-then-index-count c =
+pub returns-then-found-count-clause-answer : goal.returns-then-found-count-clause-answer
+returns-then-found-count-clause-answer c =
     let a = c.args in
     let f = a.f.now in
     let g = c.loop-g.g in
@@ -51,26 +44,15 @@ returns-then-index-count c =
     let n = c.instructions_of-count.ensures.0 ∙ ap (λ (x : Record). instructions_of x) c.record_at-x.ensures ∙ sym (length_at f c.start_of-h.result) in
     let found = c.first_instruction-found.result in
     let l = c.first_instruction-found.ensures in
-    let i : found.index < (function_at f h).code_length = omega (arith, n, c.if-index-count.true) in
-    let e : suc (a.c - (g + 1)) ≡ a.c - g = omega (arith, c.loop-g-test.true) in (
-      sym (typed_refuses f g (a.c - (g + 1)) h found.index found.place c.start_of-h.ensures l.0 i (l.1 i)) ∙ ap (typed_from f g) e ∙ c.loop-g.invariant.1,
-      λ q. let w : Refused bad_instruction found.place ≡ Passed = q in absurd (let z : ◌≡◌ {A = ℕ} 0 1 = cc in omega arith),
-    )
+    let i : found.index < (function_at f h).code_length = omega (arith, n, c.if-found-count.true) in
+    let e : suc (a.c - (g + 1)) ≡ a.c - g = omega (arith, c.loop-g-test.true) in
+    sym (typed_refuses f g (a.c - (g + 1)) h found.index found.place c.start_of-h.ensures l.0 i (l.1 i)) ∙ ap (typed_from f g) e ∙ c.loop-g.invariant.0
 
 pub last_ends-requires : goal.last_ends-requires
 last_ends-requires c =
     let f = c.args.f.now in
     let n = c.instructions_of-count.ensures.0 ∙ ap (λ (x : Record). instructions_of x) c.record_at-x.ensures ∙ sym (length_at f c.start_of-h.result) in
-    record { fact_1 = c.start_of-h.ensures; fact_2 = c.first_instruction-found.ensures.2 (omega (arith, n, c.if-index-count.false)) }
-
-pub overflow_add-ends : goal.overflow_add-ends
-overflow_add-ends c = omega (arith, c.loop-g-test.true)
-
-pub overflow_add-g : goal.overflow_add-g
-overflow_add-g c = omega (arith, c.loop-g-test.true)
-
-pub loop-g-smaller : goal.loop-g-smaller
-loop-g-smaller c = omega (arith, c.loop-g-test.true)
+    record { fact_1 = c.start_of-h.ensures; fact_2 = c.first_instruction-found.ensures.2 (omega (arith, n, c.if-found-count.false)) }
 
 pub loop-g-preserved : goal.loop-g-preserved
 loop-g-preserved c =
@@ -78,7 +60,7 @@ loop-g-preserved c =
     let f = a.f.now in
     let t = last_test (module_of f) in
     let g = c.loop-g.g in
-    let ends = c.loop-g.ends in
+    let runs_on = c.loop-g.runs_on in
     let inv = c.loop-g.invariant in
     let h = c.start_of-h.result in
     let n = c.instructions_of-count.ensures.0 ∙ ap (λ (x : Record). instructions_of x) c.record_at-x.ensures ∙ sym (length_at f c.start_of-h.result) in
@@ -86,25 +68,25 @@ loop-g-preserved c =
     let l = c.first_instruction-found.ensures in
     let last = c.last_ends.ensures in
     let e : suc (a.c - (g + 1)) ≡ a.c - g = omega (arith, c.loop-g-test.true) in (
-      omega (arith, c.loop-g-test.true),
       ap (λ (k : ℕ). typed_from f k (a.c - (g + 1))) (add-one g)
-          ∙ sym (typed_passes f g (a.c - (g + 1)) h found.index 0 c.start_of-h.ensures l.0 (omega (arith, n, c.if-index-count.false)))
+          ∙ sym (typed_passes f g (a.c - (g + 1)) h found.index 0 c.start_of-h.ensures l.0 (omega (arith, n, c.if-found-count.false)))
           ∙ ap (typed_from f g) e
-          ∙ inv.1,
+          ∙ inv.0,
       l.3,
-      elim c.if-ends-g.branch [
-        | then-ends-g s ↦
-            let w = both (eqb ends g) c.last_ends.result s.if-ends-g.true in
-            s.ends-is ∙ first_goes t g inv.3 (eqb-true ends g w.0) (sym last ∙ w.1)
-        | else-ends-g s ↦ s.ends-is ∙ first_stays t g inv.3 (ap (λ (x : Bool). eqb ends g && x) (sym last) ∙ s.if-ends-g.false)
+      elim c.if-not-last_ends.branch [
+        | then-not-last_ends s ↦
+            rw (s.runs_on-is, s.or-runs_on.ensures) (first_stays t g runs_on inv.2 (sym last ∙ s.if-not-last_ends.true))
+        | else-not-last_ends s ↦ rw s.runs_on-is (first_goes t g runs_on inv.2 (sym last ∙ s.if-not-last_ends.false))
       ],
     )
 
-pub returns : goal.returns
-returns c =
+pub returns-clause-answer : goal.returns-clause-answer
+returns-clause-answer c =
     let a = c.args in
     let f = a.f.now in
     let g = c.loop-g.g in
     let e : 0 ≡ a.c - g = omega arith in
-    let q : g ≡ a.c = omega arith in
-    (sym (typed_ended f g) ∙ ap (typed_from f g) e ∙ c.loop-g.invariant.1, λ _. c.loop-g.invariant.3 ∙ ap (λ (n : ℕ). first n (last_test (module_of f))) q)
+    sym (typed_ended f g) ∙ ap (typed_from f g) e ∙ c.loop-g.invariant.0
+
+pub returns-clause-last : goal.returns-clause-last
+returns-clause-last c = let e : c.loop-g.g ≡ c.args.c = omega arith in rw e at c.loop-g.invariant.2
