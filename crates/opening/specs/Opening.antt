@@ -1,5 +1,5 @@
 -- Opening's answer as rules' `Opened`, and `open_at` case by case, as the code goes. Assumes nothing.
-use Rattle.std.specs.Prelude.{◌≡◌, refl, ◌≢◌, ℕ, ◌*◌, ◌≤◌, eqb, length}
+use Rattle.std.specs.Prelude.{◌≡◌, refl, ◌≢◌, ℕ, ◌*◌, ◌≤◌, eqb, length, Result, Ok, Err}
 use Rattle.std.proofs.Common.{sym, ◌∙◌, subst, arith}
 use Rattle.std.proofs.Math.Path.{ap}
 use Rattle.words.specs.Bytes.{Bytes}
@@ -13,17 +13,16 @@ use Rattle.rules.specs.Verdict.{verdict_of, IsAccepted}
 use Rattle.rules.specs.Host as rules
 use Rattle.rules.specs.declared.PageRange.{PageRange}
 use Rattle.rules.specs.declared.Record.{Record}
-use Rattle.rules.specs.Refusals.{Verdict}
+use Rattle.rules.specs.declared.refusal.Refusal.{Refusal}
+use Rattle.rules.specs.Refusals.{Verdict, number_of, place_of}
 use Rattle.rules.specs.Refusals as verdicts
 use Rattle.typing.specs.Accepted.{accepted}
 use Rattle.guarantees.specs.Verdicts.{on_refused, on_accepted}
-use Rattle.opening.specs.declared.Opened.{Opened}
-use Rattle.opening.specs.declared.Opened.TheVariants as answers
 
 -- the answer, where the bytes left are t
-abbrev pub opened_meant : Opened → Bytes → rules.Opened
-opened_meant (answers.Refused n p) t = rules.not_opened n p
-opened_meant answers.Opened t = rules.opened t
+abbrev pub opened_meant : Result (Unit {0}) Refusal → Bytes → rules.Opened
+opened_meant (Ok x) t = rules.opened t
+opened_meant (Err e) t = rules.not_opened (number_of e) (place_of e)
 
 -- ---- what refusals 1 to 4 say of function 0
 
@@ -69,12 +68,12 @@ module _ (R : PageRange) (f xs s : Bytes) where
 -- ---- the contract from the answer
 
 -- the answer is o, and t is what it leaves of s
-pub record OpenedBy (r : Opened) (s t : Bytes) (o : rules.Opened) : Type 0 where
+pub record OpenedBy (r : Result (Unit {0}) Refusal) (s t : Bytes) (o : rules.Opened) : Type 0 where
   pub answer : opened_meant r t ≡ o
   pub left : t ≡ rules.left_opened o s
 
-pub opened_refused : {n p : ℕ} {s t : Bytes} {o : rules.Opened} → t ≡ s → rules.not_opened n p ≡ o → OpenedBy (answers.Refused n p) s t o
-opened_refused {n} {p} {s} {t} e d = subst (λ (o : rules.Opened). OpenedBy (answers.Refused n p) s t o) d (record { answer = refl; left = e })
+pub opened_refused : {e : Refusal} {s t : Bytes} {o : rules.Opened} → t ≡ s → rules.not_opened (number_of e) (place_of e) ≡ o → OpenedBy (Err e) s t o
+opened_refused {e} {s} {t} {o} d h = subst (λ (o : rules.Opened). OpenedBy (Err e) s t o) h (record { answer = refl; left = d })
 
-pub opened_made : {s t u : Bytes} {o : rules.Opened} → t ≡ u → rules.opened u ≡ o → OpenedBy answers.Opened s t o
-opened_made {s} {t} {u} e d = subst (λ (o : rules.Opened). OpenedBy answers.Opened s t o) d (record { answer = ap rules.opened e; left = e })
+pub opened_made : {s t u : Bytes} {o : rules.Opened} → t ≡ u → rules.opened u ≡ o → OpenedBy (Ok tt) s t o
+opened_made {s} {t} {u} e d = subst (λ (o : rules.Opened). OpenedBy (Ok tt) s t o) d (record { answer = ap rules.opened e; left = e })

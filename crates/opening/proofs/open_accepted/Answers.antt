@@ -13,12 +13,12 @@ pub fresh-requires : goal.fresh-requires
 fresh-requires c =
     let accepted = c.requires in
     let params = params_are _ c.head_of-h.ensures c.parameters_of-params.ensures in
-    let locals = locals_are _ c.head_of-h.ensures c.wide.ensures.0 in
+    let locals = locals_are _ c.head_of-h.ensures c.from.ensures in
     (c.if-s-ne-STATE_BYTES.false, params_few _ accepted params, c.if-arguments-params.false, locals_few _ accepted locals)
 
 pub returns : goal.returns
 returns c =
     let params = params_are _ c.head_of-h.ensures c.parameters_of-params.ensures in
-    let locals = locals_are _ c.head_of-h.ensures c.wide.ensures.0 in
+    let locals = locals_are _ c.head_of-h.ensures c.from.ensures in
     opened_made (c.fresh.ensures _ params locals)
     (open_opened _ _ _ _ c.requires params c.if-arguments-params.false c.if-s-ne-STATE_BYTES.false)
