@@ -1,6 +1,6 @@
 -- The primitive at a position, as the code finds it: through arrays, structs and fields, a substitution carried along.
 -- Assumes nothing.
-use Rattle.std.specs.Prelude.{◌≡◌, cond, [], ◌∷◌, ℕ, zero, suc, ◌+◌, ◌-◌, ◌*◌, ◌/◌, ◌%◌, ◌≤◌, ◌<◌, ltb, length, get_or}
+use Rattle.std.specs.Prelude.{◌≡◌, cond, ℕ, zero, suc, ◌+◌, ◌-◌, ◌*◌, ◌/◌, ◌%◌, ◌≤◌, ◌<◌, ltb, length, get_or}
 use Rattle.std.proofs.Math.Path.{refl, ap}
 use Rattle.std.proofs.Common.{sym, ◌∙◌, subst, ⊎_elim, add-zero, mul-le-mul_right, div-lt_iff_lt-mul, div-add-mod', mod-lt, arith}
 use Rattle.std.proofs.Math.ListN.{get_or-eq_default}
@@ -13,13 +13,14 @@ use Rattle.rules.specs.Decode.{module_of}
 use Rattle.layout.specs.Types.{sub_sub}
 use Rattle.layout.specs.Prims.{nth, moved_moved, placed_moved, count_packed, count_copies_of, size_copies_of, beside_sized, beside_none, copies_sized, copies_fit, sub_layout_size, count_sub}
 use Rattle.layout.specs.Runs.{nth_left, nth_right, nth_copies as nth-copy, nth_sub}
-use Rattle.terms.specs.declared.Head.TheVariants.{Int, Ptr, Arr, Untyped}
+use Rattle.terms.specs.declared.Head.{Head}
+use Rattle.terms.specs.declared.Head.TheVariants.{Int, Ptr, Arr, Struct, Untyped}
 use Rattle.terms.specs.Heads.{digit, args_of, tree_at, head_of, grow}
 use Rattle.terms.specs.HeadLaws.{tree_step}
 use Rattle.terms.specs.Extents.{Terms, field_place, field_count, firsts}
 use Rattle.terms.specs.ExtentLaws.{fields_firsts, module_fields}
 use Rattle.terms.specs.Compare.{byte_under, under, under_is, sub_same, get_d_any}
-use Rattle.positions.specs.Table.{term_layout, struct_layout, own_byte}
+use Rattle.positions.specs.Table.{NoStruct, term_layout, struct_layout, own_byte}
 use Rattle.positions.specs.TableLaws.{layout_at, layout_arr}
 use Rattle.positions.specs.declared.Primitive.{Primitive}
 
@@ -127,6 +128,14 @@ module _ (f : Bytes) (k p off i : ℕ) (to : Bytes) where
   pub single_untyped : (n r : ℕ) → head_of f p ≡ Untyped n r → term_layout f k p ≡ single 4 (tree_at f p)
   unfolding grow flat_with
   single_untyped n r e = layout_at f k p (Untyped n r) e ∙ ap (single 4) (sym (tree_step f p ∙ ap (grow (tree_at f)) e))
+
+  -- what is no array and no struct
+  pub single_other : (h : Head) → head_of f p ≡ h → NoStruct h → ((n a : ℕ) → h ≡ Arr n a → ⊥) → (w : ℕ) × (term_layout f k p ≡ single w (tree_at f p))
+  single_other (Int w) e s o = (w, single_int w e)
+  single_other (Ptr a r) e s o = (4, single_ptr a r e)
+  single_other (Arr n a) e s o = absurd (o n a refl)
+  single_other (Struct N n d) e s o = absurd s
+  single_other (Untyped n r) e s o = (4, single_untyped n r e)
 
   -- a struct, whatever led to it
   module _ (N c d : ℕ) (is : term_layout f k p ≡ sub_layout (arg (args_of d c)) (struct_layout f N)) where
@@ -294,27 +303,7 @@ module _ (f : Bytes) (n N : ℕ) where
             ∙ nth_right (before j) (field j) (i - cnt) (omega arith) ∙ ap (λ (x : ℕ). moved x P) (sym is-size) in
             found k ∙ sym (moved_moved off sz (placed_in (under {k = k} to) P)) ∙ ap (moved off) (sym (placed_moved (under {k = k} to) sz P)) ∙ ap (λ (Q : Placed variable). moved off (placed_in (under {k = k} to) Q)) (sym place)
 
--- ---- four and eight bytes held
-
-pub four : (g : ℕ → ℕ) (a0 a1 a2 a3 : ℕ) → a0 ≡ g 0 → a1 ≡ g 1 → a2 ≡ g 2 → a3 ≡ g 3 → ((v : ℕ) → 4 ≤ v → g v ≡ nowhere) → (v : ℕ) → get_or (a0 ∷ a1 ∷ a2 ∷ a3 ∷ []) v nowhere ≡ g v
-four g a0 a1 a2 a3 p0 p1 p2 p3 h zero = p0
-four g a0 a1 a2 a3 p0 p1 p2 p3 h (suc zero) = p1
-four g a0 a1 a2 a3 p0 p1 p2 p3 h (suc (suc zero)) = p2
-four g a0 a1 a2 a3 p0 p1 p2 p3 h (suc (suc (suc zero))) = p3
-four g a0 a1 a2 a3 p0 p1 p2 p3 h (suc (suc (suc (suc v)))) = sym (h (suc (suc (suc (suc v)))) (omega arith))
-
-pub eight : (g : ℕ → ℕ) (a0 a1 a2 a3 a4 a5 a6 a7 : ℕ) → a0 ≡ g 0 → a1 ≡ g 1 → a2 ≡ g 2 → a3 ≡ g 3 → a4 ≡ g 4 → a5 ≡ g 5 → a6 ≡ g 6 → a7 ≡ g 7
-    → ((v : ℕ) → 8 ≤ v → g v ≡ nowhere) → (v : ℕ) → get_or (a0 ∷ a1 ∷ a2 ∷ a3 ∷ a4 ∷ a5 ∷ a6 ∷ a7 ∷ []) v nowhere ≡ g v
-eight g a0 a1 a2 a3 a4 a5 a6 a7 p0 p1 p2 p3 p4 p5 p6 p7 h zero = p0
-eight g a0 a1 a2 a3 a4 a5 a6 a7 p0 p1 p2 p3 p4 p5 p6 p7 h (suc zero) = p1
-eight g a0 a1 a2 a3 a4 a5 a6 a7 p0 p1 p2 p3 p4 p5 p6 p7 h (suc (suc zero)) = p2
-eight g a0 a1 a2 a3 a4 a5 a6 a7 p0 p1 p2 p3 p4 p5 p6 p7 h (suc (suc (suc zero))) = p3
-eight g a0 a1 a2 a3 a4 a5 a6 a7 p0 p1 p2 p3 p4 p5 p6 p7 h (suc (suc (suc (suc zero)))) = p4
-eight g a0 a1 a2 a3 a4 a5 a6 a7 p0 p1 p2 p3 p4 p5 p6 p7 h (suc (suc (suc (suc (suc zero))))) = p5
-eight g a0 a1 a2 a3 a4 a5 a6 a7 p0 p1 p2 p3 p4 p5 p6 p7 h (suc (suc (suc (suc (suc (suc zero)))))) = p6
-eight g a0 a1 a2 a3 a4 a5 a6 a7 p0 p1 p2 p3 p4 p5 p6 p7 h (suc (suc (suc (suc (suc (suc (suc zero))))))) = p7
-eight g a0 a1 a2 a3 a4 a5 a6 a7 p0 p1 p2 p3 p4 p5 p6 p7 h (suc (suc (suc (suc (suc (suc (suc (suc v)))))))) =
-    sym (h (suc (suc (suc (suc (suc (suc (suc (suc v)))))))) (omega arith))
+-- ---- eight bytes held
 
 pub keeps_held : (r to : Bytes) → length to ≤ 8 → Agree r to → Keeps r
 keeps_held r to l h = h nowhere ∙ get_or-eq_default to nowhere (omega arith)

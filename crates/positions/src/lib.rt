@@ -16,6 +16,7 @@ ghost use Rattle.positions.specs.Positions.{Keeps, Agree, arg_byte, Found};
 ghost use Rattle.positions.specs.Distances.{Lower, ElementIs};
 
 use rules::limits::MOST_TERMS;
+use std::array;
 use terms::{Extent, Head};
 
 // A primitive: its distance in bytes, and the place of its term with the regions put for its variables.
@@ -31,13 +32,14 @@ pub struct Primitive {
 pub enum Core {
     // the term at a place, which is no struct
     Term(usize),
-    // the fields of a struct, for four regions, a byte of the number each
-    Fields(usize, usize),
+    // the fields of a struct, for four regions, a byte of `regions` each
+    Fields { number: usize, regions: usize },
 }
 
 // ---- entries
 
-// A core as a number, and back: structs come behind the places of terms, and their regions above CORES.
+// A core as a number, and back: structs come behind the places of terms, and their regions above CORES. (A table is lent to the crates above
+// as `&[u64]`, so an entry is one number.)
 const FIRST_STRUCT: usize = MOST_TERMS + 1;
 
 const CORES: usize = 512;
@@ -48,7 +50,7 @@ fn core_no(core: Core) -> usize
 {
     match core {
         Core::Term(c) => c,
-        Core::Fields(number, d) => FIRST_STRUCT + number + CORES * d,
+        Core::Fields { number, regions } => FIRST_STRUCT + number + CORES * regions,
     }
 }
 
@@ -57,9 +59,13 @@ fn core_from(x: usize) -> Core
 {
     let low = x % CORES;
     if low < FIRST_STRUCT {
-        return Core::Term(low);
+        Core::Term(low)
+    } else {
+        Core::Fields {
+            number: low - FIRST_STRUCT,
+            regions: x / CORES,
+        }
     }
-    Core::Fields(low - FIRST_STRUCT, x / CORES)
 }
 
 // An extent and a core as one number of the table.
@@ -67,9 +73,7 @@ fn entry(e: Extent, core: Core) -> u64
     requires { (Small e) × (Fits core) }
     ensures { result ≡ pack e core }
 {
-    let size = e.size;
-    let count = e.count;
-    (size + 1024 * count + 1048576 * core_no(core)) as u64
+    (e.size + 1024 * e.count + 1048576 * core_no(core)) as u64
 }
 
 // The extent at place p, from the table. Place 0 is i8.
@@ -79,15 +83,11 @@ pub fn extent_in(tab: &[u64], p: usize) -> Extent
     if p == 0 {
         return Extent { size: 1, count: 1 };
     }
-    let t = p - 1;
-    if t < tab.len() {
-        let x = tab[t];
-        return Extent {
-            size: (x % 1024) as usize,
-            count: (x / 1024 % 1024) as usize,
-        };
+    let x = tab.get(p - 1).copied().unwrap_or(0);
+    Extent {
+        size: (x % 1024) as usize,
+        count: (x / 1024 % 1024) as usize,
     }
-    Extent { size: 0, count: 0 }
 }
 
 // The core of the term at place p, from the table.
@@ -97,49 +97,43 @@ pub fn core_in(tab: &[u64], p: usize) -> Core
     if p == 0 {
         return Core::Term(0);
     }
-    let t = p - 1;
-    if t < tab.len() {
-        let x = tab[t];
-        return core_from((x / 1048576) as usize);
-    }
-    Core::Term(0)
+    let x = tab.get(p - 1).copied().unwrap_or(0);
+    core_from((x / 1048576) as usize)
 }
 
 // ---- substitutions
+
+// What `to` puts for variable v: 255 where it has none.
+fn byte_or(to: &[u8], v: usize) -> u8
+    ensures { result ≡ byte_under to.now v }
+{
+    to.get(v).copied().unwrap_or(255)
+}
 
 // The byte for region j of a struct term whose number d holds `count` regions, under `to`: 255 where there is none.
 fn argument(d: usize, count: usize, to: &[u8], j: usize) -> u8
     ensures { result ≡ arg_byte to.now d count j }
 {
     if j < count {
-        let v = terms::digit(d, j);
-        if v < to.len() { to[v] } else { 255 }
+        byte_or(to, terms::digit(d, j))
     } else {
         255
     }
 }
 
 // The substitution for the fields of a struct.
-fn four(d: usize, count: usize, to: &[u8]) -> [u8; 4]
-    requires { count ≤ 4 }
+fn substituted<const N: usize>(d: usize, count: usize, to: &[u8]) -> [u8; N]
+    requires { count ≤ N }
     ensures { (v : ℕ) → byte_under result v ≡ arg_byte to.now d count v }
 {
-    let a0 = argument(d, count, to, 0);
-    let a1 = argument(d, count, to, 1);
-    let a2 = argument(d, count, to, 2);
-    let a3 = argument(d, count, to, 3);
-    [a0, a1, a2, a3]
+    array::from_fn(|j| argument(d, count, to, j))
 }
 
 // The same for four regions, held as eight.
 pub fn arguments(d: usize, to: &[u8]) -> [u8; 8]
     ensures { (v : ℕ) → byte_under result v ≡ arg_byte to.now d 4 v }
 {
-    let a0 = argument(d, 4, to, 0);
-    let a1 = argument(d, 4, to, 1);
-    let a2 = argument(d, 4, to, 2);
-    let a3 = argument(d, 4, to, 3);
-    [a0, a1, a2, a3, 255, 255, 255, 255]
+    substituted(d, 4, to)
 }
 
 // The byte for region j of a struct term whose number d holds `count` regions: 255 where there is none.
@@ -159,28 +153,14 @@ fn own_arguments(d: usize, count: usize) -> [u8; 4]
     requires { (count ≤ 4) × (d < 4294967296) }
     ensures { (v : ℕ) → byte_under result v ≡ own_byte d count v }
 {
-    let a0 = own(d, count, 0);
-    let a1 = own(d, count, 1);
-    let a2 = own(d, count, 2);
-    let a3 = own(d, count, 3);
-    [a0, a1, a2, a3]
+    array::from_fn(|j| own(d, count, j))
 }
 
 // Four regions as one number, a byte each.
 fn joined(to: [u8; 4]) -> usize
     ensures { (result < 4294967296) × ((v : ℕ) → byte_under to v ≡ own_byte result 4 v) }
 {
-    let a0 = terms::wide(to[0]);
-    let a1 = terms::wide(to[1]);
-    let a2 = terms::wide(to[2]);
-    let a3 = terms::wide(to[3]);
-    a0 + 256 * a1 + 65536 * a2 + 16777216 * a3
-}
-
-fn byte_or(to: &[u8], j: usize) -> u8
-    ensures { result ≡ byte_under to.now j }
-{
-    if j < to.len() { to[j] } else { 255 }
+    u32::from_le_bytes(to) as usize
 }
 
 // A lent substitution of at most eight regions, held.
@@ -188,15 +168,7 @@ pub fn held(to: &[u8]) -> [u8; 8]
     requires { length to.now ≤ 8 }
     ensures { Agree result to.now }
 {
-    let a0 = byte_or(to, 0);
-    let a1 = byte_or(to, 1);
-    let a2 = byte_or(to, 2);
-    let a3 = byte_or(to, 3);
-    let a4 = byte_or(to, 4);
-    let a5 = byte_or(to, 5);
-    let a6 = byte_or(to, 6);
-    let a7 = byte_or(to, 7);
-    [a0, a1, a2, a3, a4, a5, a6, a7]
+    array::from_fn(|v| byte_or(to, v))
 }
 
 // ---- cores
@@ -213,16 +185,8 @@ fn bare(f: &[u8], p: usize) -> usize
     ensures { Bare f.now p result }
 {
     match terms::head_of(f, p) {
-        Head::Arr { count: n, inner: a } => {
-            if n == 1 {
-                return bare(f, a);
-            }
-            p
-        }
-        Head::Int(_) => p,
-        Head::Ptr { .. } => p,
-        Head::Struct { .. } => p,
-        Head::Untyped { .. } => p,
+        Head::Arr { count: 1, inner } => bare(f, inner),
+        _ => p,
     }
 }
 
@@ -236,16 +200,14 @@ fn innermost(f: &[u8], n: usize, number: usize, to: [u8; 4]) -> Inner
     if x.b == 1 {
         let y = walk::file::record_at(f, first + 1);
         let q = bare(f, terms::place_of(n, walk::file::entry_of(y, 0)));
-        match terms::head_of(f, q) {
-            Head::Struct { number: inside, count, regions: d } => {
-                if inside < number {
-                    return innermost(f, n, inside, four(d, count, &to));
-                }
-            }
-            Head::Int(_) => {}
-            Head::Ptr { .. } => {}
-            Head::Arr { .. } => {}
-            Head::Untyped { .. } => {}
+        if let Head::Struct {
+            number: inside,
+            count,
+            regions,
+        } = terms::head_of(f, q)
+            && inside < number
+        {
+            return innermost(f, n, inside, substituted(regions, count, &to));
         }
     }
     Inner {
@@ -261,14 +223,18 @@ fn core_of(f: &[u8], n: usize, p: usize) -> Core
 {
     let c = bare(f, p);
     match terms::head_of(f, c) {
-        Head::Struct { number, count, regions: d } => {
-            let x = innermost(f, n, number, own_arguments(d, count));
-            Core::Fields(x.number, x.regions)
+        Head::Struct {
+            number,
+            count,
+            regions,
+        } => {
+            let x = innermost(f, n, number, own_arguments(regions, count));
+            Core::Fields {
+                number: x.number,
+                regions: x.regions,
+            }
         }
-        Head::Int(_) => Core::Term(c),
-        Head::Ptr { .. } => Core::Term(c),
-        Head::Arr { .. } => Core::Term(c),
-        Head::Untyped { .. } => Core::Term(c),
+        _ => Core::Term(c),
     }
 }
 
@@ -280,12 +246,10 @@ pub fn extents(f: &[u8], n: usize, k: usize) -> [u64; MOST_TERMS]
     ensures { Table f.now n k result }
 {
     let mut tab = [0u64; MOST_TERMS];
-    let mut t = 0;
-    while t < n {
+    for t in 0..n {
         let e = terms::term_extent(f, n, k, t + 1);
         let c = core_of(f, n, t + 1);
         tab[t] = entry(e, c);
-        t += 1;
     }
     tab
 }
@@ -316,24 +280,27 @@ fn term_prim(
     ensures { (Found f.now result to off (nth (term_layout f.now k p) i)) × (result.place ≤ n) × (result.off ≤ size_limit) }
 {
     match core_in(tab, p) {
-        Core::Fields(number, d) => {
-            let inside = arguments(d, &to);
-            struct_prim(f, n, number, inside, off, i, tab)
+        Core::Fields { number, regions } => {
+            struct_prim(f, n, number, arguments(regions, &to), off, i, tab)
         }
         Core::Term(c) => match terms::head_of(f, c) {
-            Head::Arr { inner: a, .. } => {
-                let e = extent_in(tab, a);
-                let size = e.size;
-                let count = e.count;
-                if count == 0 {
+            Head::Arr { inner, .. } => {
+                let e = extent_in(tab, inner);
+                if e.count == 0 {
                     return Primitive { off, place: c, to };
                 }
-                term_prim(f, n, k, a, to, off + i / count * size, i % count, tab)
+                term_prim(
+                    f,
+                    n,
+                    k,
+                    inner,
+                    to,
+                    off + i / e.count * e.size,
+                    i % e.count,
+                    tab,
+                )
             }
-            Head::Int(_) => Primitive { off, place: c, to },
-            Head::Ptr { .. } => Primitive { off, place: c, to },
-            Head::Struct { .. } => Primitive { off, place: c, to },
-            Head::Untyped { .. } => Primitive { off, place: c, to },
+            _ => Primitive { off, place: c, to },
         },
     }
 }
@@ -355,19 +322,16 @@ fn struct_prim(
     let first = n + 2 * number;
     let x = walk::file::record_at(f, first);
     let y = walk::file::record_at(f, first + 1);
-    let fields = x.b;
     let mut size = 0;
     let mut count = 0;
-    let mut j: u8 = 0;
-    while j < fields {
-        let p = terms::place_of(n, walk::file::entry_of(y, j as usize));
+    for j in 0..x.b {
+        let p = terms::place_of(n, walk::file::entry_of(y, usize::from(j)));
         let e = extent_in(tab, p);
         if i < count + e.count {
             return term_prim(f, n, number, p, to, off + size, i - count, tab);
         }
-        size = size + e.size;
-        count = count + e.count;
-        j += 1;
+        size += e.size;
+        count += e.count;
     }
     Primitive { off, place: 0, to }
 }
@@ -395,11 +359,11 @@ fn place_off(f: &[u8], n: usize, k: usize, p: usize, i: usize, tab: &[u64]) -> u
     requires { (Table f.now n k tab.now) × (p ≤ n) × (i < count (term_layout f.now k p)) }
     ensures { result ≡ distance (term_layout f.now k p) i }
 {
-    let x = place_prim(f, n, k, p, [255, 255, 255, 255, 255, 255, 255, 255], i, tab);
-    x.off
+    place_prim(f, n, k, p, [255; 8], i, tab).off
 }
 
-// The first position of the term at place p, of `many` primitives, whose distance is o or more. By halves: distances grow.
+// The first position of the term at place p, of `many` primitives, whose distance is o or more. By halves, as distances grow (they stand
+// in no slice that `partition_point` could go over: each is found by a descent).
 fn lower(f: &[u8], n: usize, k: usize, p: usize, o: usize, many: usize, tab: &[u64]) -> usize
     requires { (Table f.now n k tab.now) × (p ≤ n) × (many ≡ count (term_layout f.now k p)) }
     ensures { Lower (term_layout f.now k p) o result result }
@@ -423,16 +387,13 @@ pub fn position_at(f: &[u8], n: usize, k: usize, t: usize, o: usize, tab: &[u64]
     ensures { let m = module_of f.now in result ≡ position_at (flat m (m.term t)) o }
 {
     let p = terms::place_of(n, t);
-    let e = extent_in(tab, p);
-    let many = e.count;
+    let many = extent_in(tab, p).count;
     let i = lower(f, n, k, p, o, many, tab);
-    if i < many {
-        if place_off(f, n, k, p, i, tab) == o {
-            return i;
-        }
-        return many;
+    if i < many && place_off(f, n, k, p, i, tab) == o {
+        i
+    } else {
+        many
     }
-    many
 }
 
 // Kind 23: the distance of position d of term t, 0 where there is none.
@@ -441,11 +402,11 @@ pub fn distance(f: &[u8], n: usize, k: usize, t: usize, d: usize, tab: &[u64]) -
     ensures { let m = module_of f.now in result ≡ distance (flat m (m.term t)) d }
 {
     let p = terms::place_of(n, t);
-    let e = extent_in(tab, p);
-    if d < e.count {
-        return place_off(f, n, k, p, d, tab);
+    if d < extent_in(tab, p).count {
+        place_off(f, n, k, p, d, tab)
+    } else {
+        0
     }
-    0
 }
 
 // Kind 24: the size of an element and their number, of an array.

@@ -14,14 +14,14 @@ field_is : (f : Bytes) (n N : ℕ) {p e : ℕ} {y : Record} → p ≡ place_of n
 unfolding field_place
 field_is f n N a b d = a ∙ ap (place_of n) (b ∙ ap (λ (x : Record). entry_of x 0) d)
 
-pub returns-then-inside-number : goal.returns-then-inside-number
-returns-then-inside-number t c =
+pub returns-then-x-eq1 : goal.returns-then-x-eq1
+returns-then-x-eq1 t c =
     let a = c.args in
     let q = c.requires in
     let place = field_is a.f.now a.n a.number c.place_of.ensures.0 c.entry_of.ensures.0 c.record_at-y.ensures in
     let field : Bare a.f.now (field_place a.f.now a.n a.number 0) c.bare-q.result = subst (λ (x : ℕ). Bare a.f.now x c.bare-q.result) place c.bare-q.ensures in
     let one : field_count a.f.now a.n a.number ≡ 1 = let e = ap (λ (x : Record). x.b) c.record_at-x.ensures in let h = c.if-x-eq1.true in omega arith in
-    ends_on a.f.now a.n a.number q.2 one c.bare-q.result field _ _ _ (sym c.head_of.ensures.0 ∙ c.in-Struct.is) c.if-inside-number.true a.to c.four.result q.1 c.four.ensures _ _ c.innermost.ensures
+    ends_on a.f.now a.n a.number q.2 one c.bare-q.result field _ _ _ (sym c.head_of.ensures.0 ∙ c.in-Struct.is) c.if-inside-number.true a.to c.substituted.result q.1 c.substituted.ensures _ _ c.innermost.ensures
 
 pub returns : goal.returns
 returns t c = let a = c.args in ends_here a.f.now a.number a.to c.joined.result c.joined.ensures.0 c.joined.ensures.1

@@ -8,6 +8,6 @@ pub returns-then-low-lt-FIRST_STRUCT : goal.returns-then-low-lt-FIRST_STRUCT
 unfolding core_from
 returns-then-low-lt-FIRST_STRUCT c = sym (cond_lt _ _ c.if-low-lt-FIRST_STRUCT.true)
 
-pub returns : goal.returns
+pub returns-else-low-lt-FIRST_STRUCT : goal.returns-else-low-lt-FIRST_STRUCT
 unfolding core_from
-returns c = sym (cond_nlt _ _ c.if-low-lt-FIRST_STRUCT.false)
+returns-else-low-lt-FIRST_STRUCT c = sym (cond_nlt _ _ c.if-low-lt-FIRST_STRUCT.false)

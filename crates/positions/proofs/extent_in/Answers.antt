@@ -1,14 +1,11 @@
 -- `positions::extent_in` meets its contract: place 0, or an entry; past the end there are zeros.
 use Rattle.positions.specs.TableLaws.{entry_none, entry_some}
-use lib.ListN.{get_or-eq_default}
-use mathlib.Core.Path.{refl, sym}
+use Rattle.std.proofs.Common.{rules}
+use mathlib.Core.Path.{sym}
 use Rattle.positions.proofs.extent_in.Goals as goal
 
 pub returns-then-p-eq0 : goal.returns-then-p-eq0
 returns-then-p-eq0 c = sym (entry_none c.args.tab.now c.args.p c.if-p-eq0.true)
 
-pub returns-then-t-tab : goal.returns-then-t-tab
-returns-then-t-tab c = entry_some c.args.tab.now c.args.p c.if-p-eq0.false _ refl
-
 pub returns : goal.returns
-returns c = entry_some c.args.tab.now c.args.p c.if-p-eq0.false 0 (sym (get_or-eq_default c.args.tab.now 0 c.if-t-tab.false))
+returns c = entry_some c.args.tab.now c.args.p c.if-p-eq0.false c.unwrap_or-x.result (search rules)

@@ -7,35 +7,22 @@ use native.Mathlib.Omega.{arith}
 use Rattle.positions.proofs.extents.Goals as goal
 
 pub loop-t-init : goal.loop-t-init
-loop-t-init c = let a = c.args in (omega arith, length-replicate {A = ℕ} 128 0, filled_none a.f.now a.k _, sizes_none a.f.now a.k)
-
-pub term_extent-e-requires : goal.term_extent-e-requires
-term_extent-e-requires c = c.requires.0.terms
+loop-t-init c = let a = c.args in (length-replicate {A = ℕ} 128 0, filled_none a.f.now a.k _, sizes_none a.f.now a.k)
 
 pub core_of-c-requires : goal.core_of-c-requires
 core_of-c-requires c = let l = c.loop-t-test.true in (omega arith, c.requires.0.terms, few_args c.args.f.now c.args.n c.requires.1)
-
-pub entry-requires : goal.entry-requires
-entry-requires c = (c.term_extent-e.ensures.1, core_fits c.args.f.now _ c.core_of-c.result (let l = c.loop-t-test.true in omega (arith, c.requires.0.terms.few)) c.core_of-c.ensures)
-
-pub offset_bounds-tab-t : goal.offset_bounds-tab-t
-offset_bounds-tab-t c = omega (arith, c.requires.0.terms.few)
-
-pub bounds-tab-t : goal.bounds-tab-t
-bounds-tab-t c = omega (arith, c.requires.0.terms.few, c.loop-t.invariant.1)
 
 pub loop-t-preserved : goal.loop-t-preserved
 loop-t-preserved c =
     let a = c.args in
     let l = c.loop-t in
     let core = c.core_of-c.ensures in (
-      omega arith,
-      length-set l.tab l.t c.entry.result ∙ l.invariant.1,
-      filled_more a.f.now a.k l.tab l.t c.term_extent-e.result c.core_of-c.result c.entry.result (omega (arith, c.requires.0.terms.few, l.invariant.1)) l.invariant.2 c.term_extent-e.ensures.0 c.term_extent-e.ensures.1 core
+      length-set l.tab l.t c.entry.result ∙ l.invariant.0,
+      filled_more a.f.now a.k l.tab l.t c.term_extent-e.result c.core_of-c.result c.entry.result (omega (arith, c.requires.0.terms.few, l.invariant.0)) l.invariant.1 c.term_extent-e.ensures.0 c.term_extent-e.ensures.1 core
           (core_fits a.f.now _ c.core_of-c.result (omega (arith, c.requires.0.terms.few)) core) c.entry.ensures,
-      sizes_more a.f.now a.k l.t c.term_extent-e.result l.invariant.3 c.term_extent-e.ensures.0 c.term_extent-e.ensures.1,
+      sizes_more a.f.now a.k l.t c.term_extent-e.result l.invariant.2 c.term_extent-e.ensures.0 c.term_extent-e.ensures.1,
     )
 
 pub returns : goal.returns
 returns c = let a = c.args in
-    filled_table a.f.now (λ i. let b = c.type_inv.f i in omega arith) a.n a.k c.requires.0 c.requires.1 c.loop-t.tab c.loop-t.t c.loop-t-test.false c.loop-t.invariant.2 (λ p l. c.loop-t.invariant.3 p (omega arith))
+    filled_table a.f.now (λ i. let b = c.type_inv.f i in omega arith) a.n a.k c.requires.0 c.requires.1 c.loop-t.tab c.loop-t.t c.loop-t-test.false c.loop-t.invariant.1 (λ p l. c.loop-t.invariant.2 p (omega arith))

@@ -1,10 +1,13 @@
 -- `positions::own_arguments` meets its contract: four bytes, and nowhere after them.
-use Rattle.positions.specs.Table.{own_byte}
-use Rattle.positions.specs.Positions.{own_out, four}
-use native.Mathlib.Omega.{arith}
+use Rattle.std.proofs.Common.{sym, ◌∙◌, ⊎_elim, arith, rules}
+use Rattle.std.proofs.Math.ListN.{get_or-eq_default}
+use Rattle.words.specs.Choose.{lt_or_le}
+use Rattle.positions.specs.Positions.{own_out}
 use Rattle.positions.proofs.own_arguments.Goals as goal
 
 pub returns : goal.returns
-returns c =
-    let a = c.args in
-    four (own_byte a.d a.count) _ _ _ _ c.own-a0.ensures c.own-a1.ensures c.own-a2.ensures c.own-a3.ensures (λ v l. own_out a.d a.count v (let h = c.requires.0 in omega arith))
+returns c = λ v. let a = c.args in let r = c.from_fn.ensures.items in
+    ⊎_elim
+    (λ l. let w = r.at v 255 l in let k = w.2 in search rules)
+    (λ l. get_or-eq_default c.from_fn.result 255 (omega (arith, r.long)) ∙ sym (own_out a.d a.count v (let h = c.requires.0 in omega arith)))
+    (lt_or_le v 4)
