@@ -1,13 +1,12 @@
 -- Terms written out: an entry, one layout after another, copies and fields. Assumes nothing.
-use Rattle.std.specs.Prelude.{◌≡◌, ◌≢◌, List, [], ◌∷◌, ℕ, zero, suc, ◌+◌, ◌-◌, ◌*◌, ◌/◌, ◌%◌, ◌≤◌, ◌<◌, length, get_or, set, replicate}
+use Rattle.std.specs.Prelude.{◌≡◌, ◌≢◌, List, [], ℕ, zero, suc, ◌+◌, ◌-◌, ◌*◌, ◌/◌, ◌%◌, ◌≤◌, ◌<◌, get_or, set, replicate}
 use Rattle.std.proofs.Math.Path.{refl, ap}
 use Rattle.std.proofs.Common.{sym, ◌∙◌, subst, ⊎_elim, add_comm, mul-le-mul_right, arith, length-set, get_or-set_same, get_or-set_other}
 use Rattle.std.proofs.Math.Decide.{ℕ_discrete}
 use Rattle.std.proofs.lemmas.List.{length-replicate}
-use Rattle.std.proofs.Math.ListN.{get_or-eq_default}
 use Rattle.words.specs.Bytes.{Bytes}
 use Rattle.words.specs.Choose.{lt_or_le}
-use Rattle.rules.specs.Types.{RegionKind, variable, int, sub, arg, nowhere}
+use Rattle.rules.specs.Types.{RegionKind, variable, int, sub, arg}
 use Rattle.rules.specs.Flat.{Placed, at as placed, Layout, count, single, moved, packed, copies_of, placed_in, sub_layout}
 use Rattle.layout.specs.Prims.{nth, moved_moved, placed_moved, count_packed, count_copies_of, size_copies_of}
 use Rattle.layout.specs.Runs.{nth_left, nth_right, nth_copies as nth-copy}
@@ -284,17 +283,6 @@ module _ {f : Bytes} {subs : List Bytes} {spots : List ℕ} (at off : ℕ) (past
           (let e = same (256 + N) (omega arith) in
           subst (λ (r : Primitive). PastOf f subs' spots' at off N r) (sym e) (past_one N (entry_of subs spots (256 + N)) (past.each N l (subst (λ (r : Primitive). 0 < r.place) e s))));
     }
-
-default : (l : Bytes) (v d : ℕ) → v < length l → get_or l v d ≡ get_or l v 0
-default [] v d h = absurd (omega arith)
-default (x ∷ l) zero d h = refl
-default (x ∷ l) (suc v) d h = default l v d (omega arith)
-
-pub agree_all : (x y : Bytes) → length x ≡ 8 → length y ≡ 8 → ((v : ℕ) → v < 8 → get_or x v 0 ≡ get_or y v 0) → Agree x y
-agree_all x y a b h v = ⊎_elim
-    (λ l. default x v nowhere (omega arith) ∙ h v l ∙ sym (default y v nowhere (omega arith)))
-    (λ l. get_or-eq_default x nowhere {n = v} (omega arith) ∙ sym (get_or-eq_default y nowhere {n = v} (omega arith)))
-    (lt_or_le v 8)
 
 pub written_off : {f : Bytes} {subs : List Bytes} {spots : List ℕ} {at : ℕ} {to : Bytes} {off off' : ℕ} {L : Layout variable} → off ≡ off' → Written f subs spots at to off L → Written f subs spots at to off' L
 written_off {f} {subs} {spots} {at} {to} {off} {off'} {L} e w = subst (λ (x : ℕ). Written f subs spots at to x L) e w

@@ -63,12 +63,9 @@ fn shifted(
     requires { (from + many ≤ at) × (at + many ≤ size_limit) × (Room subs.old spots.old) × (Near subs.old spots.old from many by) }
     ensures { Shifted subs.old spots.old subs.new spots.new from many at by }
 {
-    let mut i = 0;
-    while i < many {
+    for i in 0..many {
         let x = entry(subs, spots, from + i);
-        let to = x.to;
-        put(subs, spots, at + i, x.place, to, x.off + by);
-        i += 1;
+        put(subs, spots, at + i, x.place, x.to, x.off + by);
     }
 }
 
@@ -76,24 +73,14 @@ fn shifted(
 pub fn agree(x: [u8; 8], y: [u8; 8]) -> bool
     ensures { result ≡ true → Agree x y }
 {
-    let mut i = 0;
-    while i < 8 {
-        if x[i] != y[i] {
-            return false;
-        }
-        i += 1;
-    }
-    true
+    x == y
 }
 
 // Whether something was written, and under the same substitution.
 fn at_hand(start: usize, x: [u8; 8], y: [u8; 8]) -> bool
     ensures { result ≡ true → (0 < start) × (Agree x y) }
 {
-    if start == 0 {
-        return false;
-    }
-    agree(x, y)
+    start > 0 && agree(x, y)
 }
 
 // ---- writing out: functions in a cycle, as those of positions
@@ -115,25 +102,22 @@ pub fn term_written(
     requires { let L = term_layout f.now k p in (p ≤ n) × (off + L.size ≤ size_limit) × (at + count L ≤ size_limit) × (Keeps to) × (Known f.now n k tab.now) × (Room subs.old spots.old) × (k ≤ most_structs) × (Past f.now subs.old spots.old at off) }
     ensures { (Written f.now subs.new spots.new at to off (term_layout f.now k p)) × (Kept subs.old spots.old subs.new spots.new at) × (Past f.now subs.new spots.new (at + count (term_layout f.now k p)) (off + (term_layout f.now k p).size)) }
 {
-    let e = positions::extent_in(tab, p);
-    let all = e.count;
+    let all = positions::extent_in(tab, p).count;
     if all == 0 {
         return;
     }
     match positions::core_in(tab, p) {
-        Core::Fields(number, d) => {
-            let inside = positions::arguments(d, &to);
+        Core::Fields { number, regions } => {
+            let inside = positions::arguments(regions, &to);
             struct_written(f, n, number, inside, off, all, subs, spots, at, tab);
         }
         Core::Term(c) => match terms::head_of(f, c) {
-            Head::Arr { count: many, inner: a } => {
-                copies_written(f, n, k, a, to, off, many, subs, spots, at, tab);
+            Head::Arr { count, inner } => {
+                copies_written(f, n, k, inner, to, off, count, subs, spots, at, tab);
             }
             // an integer has no regions: under one substitution always, it is found alike without reading the file (same_prim, runs)
             Head::Int(_) => put(subs, spots, at, c, [0u8; 8], off),
-            Head::Ptr { .. } => put(subs, spots, at, c, to, off),
-            Head::Struct { .. } => {}
-            Head::Untyped { .. } => put(subs, spots, at, c, to, off),
+            _ => put(subs, spots, at, c, to, off),
         },
     }
 }
@@ -161,12 +145,8 @@ fn copies_written(
     }
     term_written(f, n, k, a, to, off, subs, spots, at, tab);
     let e = positions::extent_in(tab, a);
-    let size = e.size;
-    let count = e.count;
-    let mut h = 1;
-    while h < many {
-        shifted(subs, spots, at, count, at + h * count, h * size);
-        h += 1;
+    for h in 1..many {
+        shifted(subs, spots, at, e.count, at + h * e.count, h * e.size);
     }
 }
 
@@ -188,22 +168,17 @@ fn struct_written(
     ensures { (Written f.now subs.new spots.new at to off (struct_layout f.now number)) × (Kept subs.old spots.old subs.new spots.new at) × (Past f.now subs.new spots.new (at + count (struct_layout f.now number)) (off + (struct_layout f.now number).size)) }
 {
     let seen = entry(subs, spots, MEMO + number);
-    let under = seen.to;
-    let start = seen.place;
-    let there = seen.off;
-    if at_hand(start, under, to) {
-        shifted(subs, spots, start - 1, many, at, off - there);
+    if at_hand(seen.place, seen.to, to) {
+        shifted(subs, spots, seen.place - 1, many, at, off - seen.off);
         return;
     }
     let first = n + 2 * number;
     let x = walk::file::record_at(f, first);
     let y = walk::file::record_at(f, first + 1);
-    let fields = x.b;
     let mut size = 0;
     let mut count = 0;
-    let mut j: u8 = 0;
-    while j < fields {
-        let p = terms::place_of(n, walk::file::entry_of(y, j as usize));
+    for j in 0..x.b {
+        let p = terms::place_of(n, walk::file::entry_of(y, usize::from(j)));
         term_written(
             f,
             n,
@@ -217,9 +192,8 @@ fn struct_written(
             tab,
         );
         let e = positions::extent_in(tab, p);
-        size = size + e.size;
-        count = count + e.count;
-        j += 1;
+        size += e.size;
+        count += e.count;
     }
     put(subs, spots, MEMO + number, at + 1, to, off);
 }

@@ -14,7 +14,7 @@ use Rattle.rules.specs.File.{entry_of}
 use Rattle.rules.specs.declared.Record.{Record}
 use Rattle.terms.specs.Extents.{field_place, field_count, firsts}
 use Rattle.terms.specs.Heads.{place_of, args_of, head_of}
-use Rattle.positions.specs.Positions.{Agree, before, field, struct_fields, keeps_args, single_int, single_ptr, single_untyped, struct_size_law, struct_count, arr_layout}
+use Rattle.positions.specs.Positions.{Agree, before, field, struct_fields, keeps_args, single_int, single_other, struct_size_law, struct_count, arr_layout}
 use Rattle.positions.specs.declared.Primitive.{Primitive}
 use Rattle.flattening.specs.Written.{PastOf, Past}
 use mathlib.Core.List.{List}
@@ -55,7 +55,7 @@ module _ {t : ℕ} (c : copies_written-In-loop-h t) where
       (copy_room c.args.at c.args.many c.loop-h.h (count (copy (goal.at.copies_written-In-loop-h t c).After-extent_in-e)) c.loop-h-test.true c.requires.2)
 
   copy-after : c.extent_in-e.result.count ≤ c.loop-h.h * c.extent_in-e.result.count
-  copy-after = copy_behind c.loop-h.h c.extent_in-e.result.count c.loop-h.invariant.0
+  copy-after = copy_behind c.loop-h.h c.extent_in-e.result.count (let l = c.loop-h.auto.h in omega arith)
 
 pub copies_written-returns-then-many-eq0 : goal.copies_written-returns-then-many-eq0
 copies_written-returns-then-many-eq0 t c =
@@ -63,49 +63,11 @@ copies_written-returns-then-many-eq0 t c =
     let L = term_layout a.f.now a.k a.a in
     (written_same (ap (λ (x : ℕ). copies_of x L) (sym c.if-many-eq0.true)) (written_none (copies_of 0 L) (omega (arith, count_copies_of 0 L))), kept_none a.at c.requires.5, past_later a.at a.off c.requires.7 (omega arith) (omega arith))
 
-pub copies_written-term_written-requires : goal.copies_written-term_written-requires
-copies_written-term_written-requires t c =
-    let a = c.args in
-    let q = c.requires in
-    let L = term_layout a.f.now a.k a.a in
-    let z = c.if-many-eq0.false in (
-      omega arith,
-      (
-        q.0,
-        omega (arith, copy_room a.off a.many 0 L.size (omega arith) q.1),
-        omega (arith, copy_room a.at a.many 0 (count L) (omega arith) q.2),
-        q.3,
-        q.4,
-        q.5,
-        q.6,
-        q.7,
-      ),
-    )
-
 pub copies_written-loop-h-init : goal.copies_written-loop-h-init
 copies_written-loop-h-init t c =
     let w = c.term_written.ensures in
     let z = c.if-many-eq0.false in
-    (omega arith, omega arith, λ to first. (written_first c.args.at c.args.off (copy (goal.at.copies_written-loop-h-init t c).After-extent_in-e) first, first), kept_none c.args.at w.1.room, w.2)
-
-pub copies_written-overflow_mul-h : goal.copies_written-overflow_mul-h
-copies_written-overflow_mul-h t c = omega (arith, copy_start (goal.at.copies_written-overflow_mul-h t c).In-loop-h)
-
-pub copies_written-overflow_add-at : goal.copies_written-overflow_add-at
-copies_written-overflow_add-at t c = omega (arith, copy_start (goal.at.copies_written-overflow_add-at t c).In-loop-h)
-
-pub copies_written-overflow_mul-h-in-loop-h : goal.copies_written-overflow_mul-h-in-loop-h
-copies_written-overflow_mul-h-in-loop-h t c = omega (arith, copy-off (goal.at.copies_written-overflow_mul-h-in-loop-h t c).In-loop-h)
-
-pub copies_written-shifted-requires : goal.copies_written-shifted-requires
-copies_written-shifted-requires t c =
-    let e = copy-count (goal.at.copies_written-shifted-requires t c).After-extent_in-e in
-    let v = c.loop-h.invariant in (
-      omega (arith, copy-after (goal.at.copies_written-shifted-requires t c).In-loop-h),
-      omega (arith, copy_start (goal.at.copies_written-shifted-requires t c).In-loop-h),
-      v.3.room,
-      λ i l. (let n = (v.2 c.args.to c.term_written.ensures.0).1.near i (omega arith) in (omega (arith, n.0, copy-off (goal.at.copies_written-shifted-requires t c).In-loop-h), n.1)),
-    )
+    (λ to first. (written_first c.args.at c.args.off (copy (goal.at.copies_written-loop-h-init t c).After-extent_in-e) first, first), kept_none c.args.at w.1.room, w.2)
 
 pub copies_written-loop-h-preserved : goal.copies_written-loop-h-preserved
 copies_written-loop-h-preserved t c =
@@ -117,27 +79,25 @@ copies_written-loop-h-preserved t c =
     let x = y.extent_in-e.result in
     let kept = c.shifted.ensures.kept in
     let after = copy-after (goal.at.copies_written-loop-h-preserved t c).In-loop-h in (
-      omega arith,
-      omega arith,
       λ to first.
-          (let w = v.2 to first in (
+          (let w = v.0 to first in (
             written_same (ap (λ (z : ℕ). copies_of z L) (sym (add-one h)))
                 (written_copy a.at a.off h L x.size x.count (copy-size (goal.at.copies_written-loop-h-preserved t c).After-extent_in-e) (copy-count (goal.at.copies_written-loop-h-preserved t c).After-extent_in-e)
                 (written_kept kept a.at (copies_of h L) (omega (arith, copies_end h L x.count (copy-count (goal.at.copies_written-loop-h-preserved t c).After-extent_in-e))) w.0) (written_shifted L (copy-count (goal.at.copies_written-loop-h-preserved t c).After-extent_in-e) w.1 c.shifted.ensures)),
             written_kept kept a.at L (omega (arith, copy-count (goal.at.copies_written-loop-h-preserved t c).After-extent_in-e)) w.1,
           )),
-      kept_kept kept a.at (omega arith) v.3,
-      past_kept (a.at + count L) (a.off + L.size) v.4 kept (omega (arith, copy-count (goal.at.copies_written-loop-h-preserved t c).After-extent_in-e)) c.shifted.ensures.memo,
+      kept_kept kept a.at (omega arith) v.1,
+      past_kept (a.at + count L) (a.off + L.size) v.2 kept (omega (arith, copy-count (goal.at.copies_written-loop-h-preserved t c).After-extent_in-e)) c.shifted.ensures.memo,
     )
 
 pub copies_written-returns : goal.copies_written-returns
 copies_written-returns t c =
-    let e : c.loop-h.h ≡ c.args.many = (let l = c.loop-h.invariant.1 in let m = c.loop-h-test.false in omega arith) in (
-      written_same (ap (λ (x : ℕ). copies_of x (copy (goal.at.copies_written-returns t c).After-extent_in-e)) e) (c.loop-h.invariant.2 c.args.to c.term_written.ensures.0).0,
-      kept_kept c.loop-h.invariant.3 c.args.at (omega arith) c.term_written.ensures.1,
+    let e : c.loop-h.h ≡ c.args.many = (let z = c.if-many-eq0.false in let m = c.loop-h-test.false in omega arith) in (
+      written_same (ap (λ (x : ℕ). copies_of x (copy (goal.at.copies_written-returns t c).After-extent_in-e)) e) (c.loop-h.invariant.0 c.args.to c.term_written.ensures.0).0,
+      kept_kept c.loop-h.invariant.1 c.args.at (omega arith) c.term_written.ensures.1,
       (let a = c.args in
           let L = copy (goal.at.copies_written-returns t c).After-extent_in-e in
-          past_later (a.at + count L) (a.off + L.size) c.loop-h.invariant.4
+          past_later (a.at + count L) (a.off + L.size) c.loop-h.invariant.2
           (omega (arith, copy_behind a.many (count L) (let z = c.if-many-eq0.false in omega arith))) (omega (arith, copy_behind a.many L.size (let z = c.if-many-eq0.false in omega arith)))),
     )
 
@@ -157,7 +117,7 @@ module _ {t : ℕ} (c : struct_written-After-place_of-p t) where
 
   fld-place : c.place_of-p.result ≡ field_place fld-f fld-n fld-N fld-j
   unfolding field_place
-  fld-place = c.place_of-p.ensures.0 ∙ ap (place_of fld-n) (c.entry_of.ensures.0 ∙ ap (λ (x : Record). entry_of x fld-j) c.record_at-y.ensures)
+  fld-place = c.place_of-p.ensures.0 ∙ ap (place_of fld-n) (c.entry_of.ensures.0 ∙ ap (λ (x : ℕ). entry_of c.record_at-y.result x) c.from.ensures ∙ ap (λ (x : Record). entry_of x fld-j) c.record_at-y.ensures)
 
   fld-same : term_layout fld-f fld-N c.place_of-p.result ≡ field fld-f fld-n fld-N fld-j
   fld-same = ap (term_layout fld-f fld-N) fld-place
@@ -167,11 +127,11 @@ module _ {t : ℕ} (c : struct_written-After-place_of-p t) where
 
   fld-fits : c.args.off + c.loop-j.size + (term_layout fld-f fld-N c.place_of-p.result).size ≤ 256
   fld-fits = subst (λ (L : Layout variable). c.args.off + c.loop-j.size + L.size ≤ 256) (sym fld-same)
-      (field_fits fld-f fld-n fld-N c.requires.4.terms c.args.off c.args.at c.requires.1 c.requires.2 fld-j c.loop-j.size c.loop-j.count fld-less c.loop-j.invariant.1 c.loop-j.invariant.2)
+      (field_fits fld-f fld-n fld-N c.requires.4.terms c.args.off c.args.at c.requires.1 c.requires.2 fld-j c.loop-j.size c.loop-j.count fld-less c.loop-j.invariant.0 c.loop-j.invariant.1)
 
   fld-room : c.args.at + c.loop-j.count + count (term_layout fld-f fld-N c.place_of-p.result) ≤ 256
   fld-room = subst (λ (L : Layout variable). c.args.at + c.loop-j.count + count L ≤ 256) (sym fld-same)
-      (field_room fld-f fld-n fld-N c.requires.4.terms c.args.off c.args.at c.requires.1 c.requires.2 fld-j c.loop-j.size c.loop-j.count fld-less c.loop-j.invariant.1 c.loop-j.invariant.2)
+      (field_room fld-f fld-n fld-N c.requires.4.terms c.args.off c.args.at c.requires.1 c.requires.2 fld-j c.loop-j.size c.loop-j.count fld-less c.loop-j.invariant.0 c.loop-j.invariant.1)
 
 -- and once its extent is
 module _ {t : ℕ} (c : struct_written-After-extent_in-e t) where
@@ -184,18 +144,9 @@ module _ {t : ℕ} (c : struct_written-After-extent_in-e t) where
   fld-count : c.extent_in-e.result.count ≡ count (term_layout (fld-f (goal.at.struct_written-After-extent_in-e t c).After-place_of-p) (fld-N (goal.at.struct_written-After-extent_in-e t c).After-place_of-p) c.place_of-p.result)
   fld-count = ap (λ (x : Extent). x.count) fld-extent
 
-pub struct_written-overflow_mul-first : goal.struct_written-overflow_mul-first
-struct_written-overflow_mul-first t c = omega (arith, c.requires.0)
-
-pub struct_written-overflow_add-first : goal.struct_written-overflow_add-first
-struct_written-overflow_add-first t c = omega (arith, c.requires.0, c.requires.4.terms.few)
-
-pub struct_written-overflow_add-first-2 : goal.struct_written-overflow_add-first-2
-struct_written-overflow_add-first-2 t c = omega (arith, c.requires.0, c.requires.4.terms.few)
-
 pub struct_written-loop-j-init : goal.struct_written-loop-j-init
 unfolding firsts
-struct_written-loop-j-init t c = (omega arith, refl, refl, written_none (before c.args.f.now c.args.n c.args.number 0) refl, kept_none c.args.at c.requires.5, past_later c.args.at c.args.off c.requires.6 (omega arith) (omega arith))
+struct_written-loop-j-init t c = (refl, refl, written_none (before c.args.f.now c.args.n c.args.number 0) refl, kept_none c.args.at c.requires.5, past_later c.args.at c.args.off c.requires.6 (omega arith) (omega arith))
 
 pub struct_written-overflow_add-off : goal.struct_written-overflow_add-off
 struct_written-overflow_add-off t c = omega (arith, fld-fits (goal.at.struct_written-overflow_add-off t c).After-place_of-p)
@@ -206,7 +157,7 @@ struct_written-overflow_add-at t c = omega (arith, fld-room (goal.at.struct_writ
 pub struct_written-term_written-requires : goal.struct_written-term_written-requires
 struct_written-term_written-requires t c =
     let q = c.requires in
-    (omega (arith, q.0, q.4.terms.few, c.place_of-p.ensures.1), (c.place_of-p.ensures.1, fld-fits (goal.at.struct_written-term_written-requires t c).After-place_of-p, fld-room (goal.at.struct_written-term_written-requires t c).After-place_of-p, q.3, q.4, c.loop-j.invariant.4.room, (let l = q.0 in omega arith), c.loop-j.invariant.5))
+    (omega (arith, q.0, q.4.terms.few, c.place_of-p.ensures.1), (c.place_of-p.ensures.1, fld-fits (goal.at.struct_written-term_written-requires t c).After-place_of-p, fld-room (goal.at.struct_written-term_written-requires t c).After-place_of-p, q.3, q.4, c.loop-j.invariant.3.room, (let l = q.0 in omega arith), c.loop-j.invariant.4))
 
 pub struct_written-overflow_add-size : goal.struct_written-overflow_add-size
 struct_written-overflow_add-size t c = omega (arith, fld-fits (goal.at.struct_written-overflow_add-size t c).After-place_of-p, fld-size (goal.at.struct_written-overflow_add-size t c).After-extent_in-e)
@@ -214,24 +165,20 @@ struct_written-overflow_add-size t c = omega (arith, fld-fits (goal.at.struct_wr
 pub struct_written-overflow_add-count : goal.struct_written-overflow_add-count
 struct_written-overflow_add-count t c = omega (arith, fld-room (goal.at.struct_written-overflow_add-count t c).After-place_of-p, fld-count (goal.at.struct_written-overflow_add-count t c).After-extent_in-e)
 
-pub struct_written-overflow_add-j : goal.struct_written-overflow_add-j
-struct_written-overflow_add-j t c = omega (arith, c.loop-j-test.true, c.record_at-x.type_inv)
-
 pub struct_written-loop-j-preserved : goal.struct_written-loop-j-preserved
 struct_written-loop-j-preserved t c =
     let a = c.args in
     let l = c.loop-j in
     let same = fld-same (goal.at.struct_written-loop-j-preserved t c).After-place_of-p in
-    let s = size_next a.f.now a.n a.number c.requires.4.terms a.off a.at c.requires.1 c.requires.2 l.j l.size l.count (fld-less (goal.at.struct_written-loop-j-preserved t c).After-place_of-p) l.invariant.1 l.invariant.2 in
-    let m = count_next a.f.now a.n a.number c.requires.4.terms a.off a.at c.requires.1 c.requires.2 l.j l.size l.count (fld-less (goal.at.struct_written-loop-j-preserved t c).After-place_of-p) l.invariant.1 l.invariant.2 in (
-      omega arith,
+    let s = size_next a.f.now a.n a.number c.requires.4.terms a.off a.at c.requires.1 c.requires.2 l.j l.size l.count (fld-less (goal.at.struct_written-loop-j-preserved t c).After-place_of-p) l.invariant.0 l.invariant.1 in
+    let m = count_next a.f.now a.n a.number c.requires.4.terms a.off a.at c.requires.1 c.requires.2 l.j l.size l.count (fld-less (goal.at.struct_written-loop-j-preserved t c).After-place_of-p) l.invariant.0 l.invariant.1 in (
       ap (λ (y : ℕ). l.size + y) (fld-size (goal.at.struct_written-loop-j-preserved t c).After-extent_in-e ∙ ap (λ (L : Layout variable). L.size) same) ∙ s ∙ ap (λ (y : ℕ). (before a.f.now a.n a.number y).size) (sym (add-one l.j)),
       ap (λ (y : ℕ). l.count + y) (fld-count (goal.at.struct_written-loop-j-preserved t c).After-extent_in-e ∙ ap (λ (L : Layout variable). count L) same) ∙ m ∙ ap (λ (y : ℕ). count (before a.f.now a.n a.number y)) (sym (add-one l.j)),
       written_same (ap (λ (y : ℕ). before a.f.now a.n a.number y) (sym (add-one l.j)))
-          (written_field a.f.now a.n a.number c.requires.4.terms a.off a.at c.requires.1 c.requires.2 l.j l.size l.count (fld-less (goal.at.struct_written-loop-j-preserved t c).After-place_of-p) l.invariant.1 l.invariant.2
-          (written_kept c.term_written.ensures.1 a.at (before a.f.now a.n a.number l.j) (omega (arith, l.invariant.2)) l.invariant.3)
+          (written_field a.f.now a.n a.number c.requires.4.terms a.off a.at c.requires.1 c.requires.2 l.j l.size l.count (fld-less (goal.at.struct_written-loop-j-preserved t c).After-place_of-p) l.invariant.0 l.invariant.1
+          (written_kept c.term_written.ensures.1 a.at (before a.f.now a.n a.number l.j) (omega (arith, l.invariant.1)) l.invariant.2)
           (written_same same c.term_written.ensures.0)),
-      kept_kept c.term_written.ensures.1 a.at (omega arith) l.invariant.4,
+      kept_kept c.term_written.ensures.1 a.at (omega arith) l.invariant.3,
       past_later (a.at + l.count + count (term_layout a.f.now a.number c.place_of-p.result)) (a.off + l.size + (term_layout a.f.now a.number c.place_of-p.result).size) c.term_written.ensures.2
           (omega (arith, fld-count (goal.at.struct_written-loop-j-preserved t c).After-extent_in-e)) (omega (arith, fld-size (goal.at.struct_written-loop-j-preserved t c).After-extent_in-e)),
     )
@@ -249,29 +196,6 @@ module _ {t : ℕ} (c : struct_written-Then-at_hand t) where
       subst (λ (r : Primitive). PastOf c.args.f.now c.args.subs.now c.args.spots.now c.args.at c.args.off c.args.number r) (sym c.entry-seen.ensures)
       (c.requires.6.each c.args.number c.requires.0 (subst (λ (r : Primitive). 0 < r.place) c.entry-seen.ensures hnd-is.0))
 
-pub struct_written-overflow_add-number : goal.struct_written-overflow_add-number
-struct_written-overflow_add-number t c = omega (arith, c.requires.0)
-
-pub struct_written-entry-seen-requires : goal.struct_written-entry-seen-requires
-struct_written-entry-seen-requires t c = omega (arith, c.requires.0)
-
-pub struct_written-overflow_sub-start : goal.struct_written-overflow_sub-start
-struct_written-overflow_sub-start t c = omega (arith, (hnd-is (goal.at.struct_written-overflow_sub-start t c).Then-at_hand).0)
-
-pub struct_written-overflow_sub-off : goal.struct_written-overflow_sub-off
-struct_written-overflow_sub-off t c = omega (arith, (hnd-past (goal.at.struct_written-overflow_sub-off t c).Then-at_hand).nearer)
-
-pub struct_written-shifted-requires : goal.struct_written-shifted-requires
-struct_written-shifted-requires t c =
-    let q = c.requires in
-    let p = hnd-past (goal.at.struct_written-shifted-requires t c).Then-at_hand in
-    let e = q.7 in (
-      omega (arith, p.behind),
-      omega (arith, q.2),
-      q.5,
-      λ i l. (let n = p.is.near i (omega arith) in (omega (arith, n.0, p.nearer, q.1), n.1)),
-    )
-
 pub struct_written-returns-then-at_hand : goal.struct_written-returns-then-at_hand
 struct_written-returns-then-at_hand t c =
     let a = c.args in
@@ -283,28 +207,19 @@ struct_written-returns-then-at_hand t c =
       past_later a.at a.off (past_kept a.at a.off q.6 c.shifted.ensures.kept (omega arith) c.shifted.ensures.memo) (omega arith) (omega arith),
     )
 
-pub struct_written-overflow_add-number-2 : goal.struct_written-overflow_add-number-2
-struct_written-overflow_add-number-2 t c = omega (arith, c.requires.0)
-
-pub struct_written-overflow_add-at-2 : goal.struct_written-overflow_add-at-2
-struct_written-overflow_add-at-2 t c = (let q = c.requires in omega (arith, q.2))
-
-pub struct_written-put-requires : goal.struct_written-put-requires
-struct_written-put-requires t c = (let q = c.requires in (omega arith, omega (arith, q.2, q.7, q.8), omega (arith, q.1)))
-
 -- What is known of a struct once its fields are written.
 module _ {t : ℕ} (c : struct_written-After-loop-j t) where
   end-fields : before c.args.f.now c.args.n c.args.number c.loop-j.j ≡ struct_layout c.args.f.now c.args.number
   end-fields =
       let a = c.args in
-      let e : c.loop-j.j ≡ field_count a.f.now a.n a.number = (let b = ap (λ (x : Record). x.b) c.record_at-x.ensures in let h = c.loop-j-test.false in let m = c.loop-j.invariant.0 in omega arith) in
+      let e : c.loop-j.j ≡ field_count a.f.now a.n a.number = (let b = ap (λ (x : Record). x.b) c.record_at-x.ensures in let h = c.loop-j-test.false in omega arith) in
       ap (before a.f.now a.n a.number) e ∙ sym (struct_fields a.f.now a.n a.number c.requires.4.terms)
 
   end-past : Past c.args.f.now c.loop-j.subs c.loop-j.spots (c.args.at + count (struct_layout c.args.f.now c.args.number)) (c.args.off + (struct_layout c.args.f.now c.args.number).size)
   end-past =
       let l = c.loop-j in
-      past_later (c.args.at + l.count) (c.args.off + l.size) l.invariant.5
-      (omega (arith, l.invariant.2, ap (λ (L : Layout variable). count L) end-fields)) (omega (arith, l.invariant.1, ap (λ (L : Layout variable). L.size) end-fields))
+      past_later (c.args.at + l.count) (c.args.off + l.size) l.invariant.4
+      (omega (arith, l.invariant.1, ap (λ (L : Layout variable). count L) end-fields)) (omega (arith, l.invariant.0, ap (λ (L : Layout variable). L.size) end-fields))
 
 pub struct_written-returns : goal.struct_written-returns
 struct_written-returns t c =
@@ -312,26 +227,26 @@ struct_written-returns t c =
     let q = c.requires in
     let l = c.loop-j in
     let L = struct_layout a.f.now a.number in
-    let w = written_same (end-fields (goal.at.struct_written-returns t c).After-loop-j) l.invariant.3 in
+    let w = written_same (end-fields (goal.at.struct_written-returns t c).After-loop-j) l.invariant.2 in
     let fits : a.off ≤ 256 = omega (arith, q.1) in (
-      put_written a.number a.at a.to a.off (a.at + count L) (a.off + L.size) l.invariant.4.room (end-past (goal.at.struct_written-returns t c).After-loop-j) w q.0 fits (omega arith) q.2 (omega arith) c.put.ensures.0 c.put.ensures.1,
-      kept_kept (put_kept a.number a.at a.to a.off (a.at + count L) (a.off + L.size) l.invariant.4.room (end-past (goal.at.struct_written-returns t c).After-loop-j) w q.0 fits (omega arith) q.2 (omega arith) c.put.ensures.0 c.put.ensures.1) a.at (omega arith) l.invariant.4,
-      past_put a.number a.at a.to a.off (a.at + count L) (a.off + L.size) l.invariant.4.room (end-past (goal.at.struct_written-returns t c).After-loop-j) w q.0 fits (omega arith) q.2 (omega arith) c.put.ensures.0 c.put.ensures.1,
+      put_written a.number a.at a.to a.off (a.at + count L) (a.off + L.size) l.invariant.3.room (end-past (goal.at.struct_written-returns t c).After-loop-j) w q.0 fits (omega arith) q.2 (omega arith) c.put.ensures.0 c.put.ensures.1,
+      kept_kept (put_kept a.number a.at a.to a.off (a.at + count L) (a.off + L.size) l.invariant.3.room (end-past (goal.at.struct_written-returns t c).After-loop-j) w q.0 fits (omega arith) q.2 (omega arith) c.put.ensures.0 c.put.ensures.1) a.at (omega arith) l.invariant.3,
+      past_put a.number a.at a.to a.off (a.at + count L) (a.off + L.size) l.invariant.3.room (end-past (goal.at.struct_written-returns t c).After-loop-j) w q.0 fits (omega arith) q.2 (omega arith) c.put.ensures.0 c.put.ensures.1,
     )
 
 -- What is known of a term whose core is a struct, in plain names.
 module _ {t : ℕ} (c : term_written-In-Fields t) where
-  str-core : InStruct c.args.f.now c.args.p c.in-Fields.number c.in-Fields.d
+  str-core : InStruct c.args.f.now c.args.p c.in-Fields.number c.in-Fields.regions
   str-core = subst (λ (x : Core). CoreIs c.args.f.now c.args.p x) (sym c.core_in.ensures ∙ c.in-Fields.is) (c.requires.4.cores c.args.p c.requires.0)
 
   str-fits : (term_layout c.args.f.now c.args.k c.args.p).size ≤ 256
   str-fits = let l = c.requires.1 in omega arith
 
-  str-is : term_layout c.args.f.now c.args.k c.args.p ≡ sub_layout (arg (args_of c.in-Fields.d 4)) (struct_layout c.args.f.now c.in-Fields.number)
+  str-is : term_layout c.args.f.now c.args.k c.args.p ≡ sub_layout (arg (args_of c.in-Fields.regions 4)) (struct_layout c.args.f.now c.in-Fields.number)
   str-is = str-core.same c.args.k str-fits
 
-  str-all : c.extent_in-e.result.count ≡ count (term_layout c.args.f.now c.args.k c.args.p)
-  str-all = ap (λ (x : Extent). x.count) (c.extent_in-e.ensures ∙ c.requires.4.entries c.args.p c.requires.0 str-fits)
+  str-all : c.extent_in-all.result.count ≡ count (term_layout c.args.f.now c.args.k c.args.p)
+  str-all = ap (λ (x : Extent). x.count) (c.extent_in-all.ensures ∙ c.requires.4.entries c.args.p c.requires.0 str-fits)
 
 -- and of one whose core is the term at a place
 module _ {t : ℕ} (c : term_written-After-head_of t) where
@@ -361,22 +276,16 @@ module _ {t : ℕ} (c : term_written-After-head_of t) where
 
   trm-some : 0 < count (term_layout trm-f trm-k trm-p)
   trm-some =
-      let e = ap (λ (x : Extent). x.count) (c.extent_in-e.ensures ∙ c.requires.4.entries c.args.p c.requires.0 (let l = c.requires.1 in omega arith)) ∙ ap (λ (L : Layout variable). count L) trm-same in
+      let e = ap (λ (x : Extent). x.count) (c.extent_in-all.ensures ∙ c.requires.4.entries c.args.p c.requires.0 (let l = c.requires.1 in omega arith)) ∙ ap (λ (L : Layout variable). count L) trm-same in
       let z = c.if-all-eq0.false in omega arith
 
 -- which is an array
 module _ {t : ℕ} (c : term_written-In-Arr t) where
-  arr-head : head_of (trm-f (goal.at.term_written-In-Arr t c).After-head_of) (trm-p (goal.at.term_written-In-Arr t c).After-head_of) ≡ Arr c.in-Arr.many c.in-Arr.a
+  arr-head : head_of (trm-f (goal.at.term_written-In-Arr t c).After-head_of) (trm-p (goal.at.term_written-In-Arr t c).After-head_of) ≡ Arr c.in-Arr.count c.in-Arr.inner
   arr-head = sym c.head_of.ensures.0 ∙ c.in-Arr.is
 
-  arr_is : term_layout (trm-f (goal.at.term_written-In-Arr t c).After-head_of) (trm-k (goal.at.term_written-In-Arr t c).After-head_of) (trm-p (goal.at.term_written-In-Arr t c).After-head_of) ≡ copies_of c.in-Arr.many (term_layout (trm-f (goal.at.term_written-In-Arr t c).After-head_of) (trm-k (goal.at.term_written-In-Arr t c).After-head_of) c.in-Arr.a)
+  arr_is : term_layout (trm-f (goal.at.term_written-In-Arr t c).After-head_of) (trm-k (goal.at.term_written-In-Arr t c).After-head_of) (trm-p (goal.at.term_written-In-Arr t c).After-head_of) ≡ copies_of c.in-Arr.count (term_layout (trm-f (goal.at.term_written-In-Arr t c).After-head_of) (trm-k (goal.at.term_written-In-Arr t c).After-head_of) c.in-Arr.inner)
   arr_is = arr_layout (trm-f (goal.at.term_written-In-Arr t c).After-head_of) (trm-k (goal.at.term_written-In-Arr t c).After-head_of) (trm-p (goal.at.term_written-In-Arr t c).After-head_of) c.args.off 0 c.args.to _ _ arr-head (trm-fits (goal.at.term_written-In-Arr t c).After-head_of) (trm-some (goal.at.term_written-In-Arr t c).After-head_of)
-
-pub term_written-returns-then-all-eq0 : goal.term_written-returns-then-all-eq0
-term_written-returns-then-all-eq0 t c =
-    let a = c.args in
-    let e = ap (λ (x : Extent). x.count) (c.extent_in-e.ensures ∙ c.requires.4.entries a.p c.requires.0 (let l = c.requires.1 in omega arith)) in
-    (written_none (term_layout a.f.now a.k a.p) (sym e ∙ c.if-all-eq0.true), kept_none a.at c.requires.5, past_later a.at a.off c.requires.7 (omega arith) (omega arith))
 
 pub term_written-struct_written-requires : goal.term_written-struct_written-requires
 term_written-struct_written-requires t c =
@@ -403,8 +312,8 @@ term_written-struct_written-requires t c =
 pub term_written-copies_written-requires : goal.term_written-copies_written-requires
 term_written-copies_written-requires t c =
     let q = c.requires in
-    let L = term_layout (trm-f (goal.at.term_written-copies_written-requires t c).After-head_of) (trm-k (goal.at.term_written-copies_written-requires t c).After-head_of) c.in-Arr.a in
-    let n = c.in-Arr.many in
+    let L = term_layout (trm-f (goal.at.term_written-copies_written-requires t c).After-head_of) (trm-k (goal.at.term_written-copies_written-requires t c).After-head_of) c.in-Arr.inner in
+    let n = c.in-Arr.count in
     let e = arr_is (goal.at.term_written-copies_written-requires t c).In-Arr in
     let s = ap (λ (M : Layout variable). M.size) e in
     let m = ap (λ (M : Layout variable). count M) e in
@@ -429,17 +338,11 @@ term_written-returns-in-Arr t c = (
   written_same (sym (trm-same (goal.at.term_written-returns-in-Arr t c).After-head_of ∙ arr_is (goal.at.term_written-returns-in-Arr t c).In-Arr)) c.copies_written.ensures.0,
   c.copies_written.ensures.1,
   (let e = trm-same (goal.at.term_written-returns-in-Arr t c).After-head_of ∙ arr_is (goal.at.term_written-returns-in-Arr t c).In-Arr in
-      let n = c.in-Arr.many in
-      let L = term_layout (trm-f (goal.at.term_written-returns-in-Arr t c).After-head_of) (trm-k (goal.at.term_written-returns-in-Arr t c).After-head_of) c.in-Arr.a in
+      let n = c.in-Arr.count in
+      let L = term_layout (trm-f (goal.at.term_written-returns-in-Arr t c).After-head_of) (trm-k (goal.at.term_written-returns-in-Arr t c).After-head_of) c.in-Arr.inner in
       past_later (c.args.at + n * count L) (c.args.off + n * L.size) c.copies_written.ensures.2
       (omega (arith, ap (λ (M : Layout variable). count M) e, count_copies_of n L)) (omega (arith, ap (λ (M : Layout variable). M.size) e, size_copies_of n L))),
 )
-
-pub term_written-put-requires : goal.term_written-put-requires
-term_written-put-requires t c = (omega (arith, trm-room (goal.at.term_written-put-requires t c).After-head_of, trm-some (goal.at.term_written-put-requires t c).After-head_of), omega (arith, trm-low (goal.at.term_written-put-requires t c).After-head_of, c.requires.4.terms.few), omega (arith, trm-fits (goal.at.term_written-put-requires t c).After-head_of))
-
-pub term_written-put-requires-in-Ptr : goal.term_written-put-requires-in-Ptr
-term_written-put-requires-in-Ptr t c = (omega (arith, trm-room (goal.at.term_written-put-requires-in-Ptr t c).After-head_of, trm-some (goal.at.term_written-put-requires-in-Ptr t c).After-head_of), omega (arith, trm-low (goal.at.term_written-put-requires-in-Ptr t c).After-head_of, c.requires.4.terms.few), omega (arith, trm-fits (goal.at.term_written-put-requires-in-Ptr t c).After-head_of))
 
 pub term_written-returns-in-Int : goal.term_written-returns-in-Int
 term_written-returns-in-Int t c =
@@ -450,22 +353,10 @@ term_written-returns-in-Int t c =
     (single_int a.f.now a.k (trm-p (goal.at.term_written-returns-in-Int t c).After-head_of) a.off 0 none _ e) c.put.ensures.0 c.put.ensures.1 in
     (written_same (sym (trm-same (goal.at.term_written-returns-in-Int t c).After-head_of)) (written_int a.k (trm-p (goal.at.term_written-returns-in-Int t c).After-head_of) _ e w.0), w.1, past_later a.at a.off (past_kept a.at a.off c.requires.7 w.1 (omega arith) (put_memo c.requires.5 a.at (trm-p (goal.at.term_written-returns-in-Int t c).After-head_of) none a.off (let z = trm-some (goal.at.term_written-returns-in-Int t c).After-head_of in omega (arith, trm-room (goal.at.term_written-returns-in-Int t c).After-head_of)) (omega (arith, trm-fits (goal.at.term_written-returns-in-Int t c).After-head_of)) (let z = trm-some (goal.at.term_written-returns-in-Int t c).After-head_of in omega (arith, trm-room (goal.at.term_written-returns-in-Int t c).After-head_of)) c.put.ensures.0 c.put.ensures.1)) (omega arith) (omega arith))
 
-pub term_written-returns-in-Ptr : goal.term_written-returns-in-Ptr
-term_written-returns-in-Ptr t c =
+pub term_written-returns-in_default : goal.term_written-returns-in_default
+term_written-returns-in_default t c =
     let a = c.args in
-    let w = put_single c.requires.5 a.at (trm-p (goal.at.term_written-returns-in-Ptr t c).After-head_of) a.to a.off (omega (arith, trm-room (goal.at.term_written-returns-in-Ptr t c).After-head_of, trm-some (goal.at.term_written-returns-in-Ptr t c).After-head_of)) (omega (arith, trm-fits (goal.at.term_written-returns-in-Ptr t c).After-head_of)) a.f.now a.k _ (omega (arith, trm-low (goal.at.term_written-returns-in-Ptr t c).After-head_of, c.requires.4.terms.few))
-    (single_ptr a.f.now a.k (trm-p (goal.at.term_written-returns-in-Ptr t c).After-head_of) a.off 0 a.to _ _ (sym c.head_of.ensures.0 ∙ c.in-Ptr.is)) c.put-in-Ptr.ensures.0 c.put-in-Ptr.ensures.1 in
-    (written_same (sym (trm-same (goal.at.term_written-returns-in-Ptr t c).After-head_of)) w.0, w.1, past_later a.at a.off (past_kept a.at a.off c.requires.7 w.1 (omega arith) (put_memo c.requires.5 a.at (trm-p (goal.at.term_written-returns-in-Ptr t c).After-head_of) a.to a.off (let z = trm-some (goal.at.term_written-returns-in-Ptr t c).After-head_of in omega (arith, trm-room (goal.at.term_written-returns-in-Ptr t c).After-head_of)) (omega (arith, trm-fits (goal.at.term_written-returns-in-Ptr t c).After-head_of)) (let z = trm-some (goal.at.term_written-returns-in-Ptr t c).After-head_of in omega (arith, trm-room (goal.at.term_written-returns-in-Ptr t c).After-head_of)) c.put-in-Ptr.ensures.0 c.put-in-Ptr.ensures.1)) (omega arith) (omega arith))
-
-pub term_written-returns-in-Struct : goal.term_written-returns-in-Struct
-term_written-returns-in-Struct t c = absurd (subst NoStruct (sym c.head_of.ensures.0 ∙ c.in-Struct.is) (trm-core (goal.at.term_written-returns-in-Struct t c).After-head_of).1)
-
-pub term_written-put-requires-in-Untyped : goal.term_written-put-requires-in-Untyped
-term_written-put-requires-in-Untyped t c = (omega (arith, trm-room (goal.at.term_written-put-requires-in-Untyped t c).After-head_of, trm-some (goal.at.term_written-put-requires-in-Untyped t c).After-head_of), omega (arith, trm-low (goal.at.term_written-put-requires-in-Untyped t c).After-head_of, c.requires.4.terms.few), omega (arith, trm-fits (goal.at.term_written-put-requires-in-Untyped t c).After-head_of))
-
-pub term_written-returns-in-Untyped : goal.term_written-returns-in-Untyped
-term_written-returns-in-Untyped t c =
-    let a = c.args in
-    let w = put_single c.requires.5 a.at (trm-p (goal.at.term_written-returns-in-Untyped t c).After-head_of) a.to a.off (omega (arith, trm-room (goal.at.term_written-returns-in-Untyped t c).After-head_of, trm-some (goal.at.term_written-returns-in-Untyped t c).After-head_of)) (omega (arith, trm-fits (goal.at.term_written-returns-in-Untyped t c).After-head_of)) a.f.now a.k _ (omega (arith, trm-low (goal.at.term_written-returns-in-Untyped t c).After-head_of, c.requires.4.terms.few))
-    (single_untyped a.f.now a.k (trm-p (goal.at.term_written-returns-in-Untyped t c).After-head_of) a.off 0 a.to _ _ (sym c.head_of.ensures.0 ∙ c.in-Untyped.is)) c.put-in-Untyped.ensures.0 c.put-in-Untyped.ensures.1 in
-    (written_same (sym (trm-same (goal.at.term_written-returns-in-Untyped t c).After-head_of)) w.0, w.1, past_later a.at a.off (past_kept a.at a.off c.requires.7 w.1 (omega arith) (put_memo c.requires.5 a.at (trm-p (goal.at.term_written-returns-in-Untyped t c).After-head_of) a.to a.off (let z = trm-some (goal.at.term_written-returns-in-Untyped t c).After-head_of in omega (arith, trm-room (goal.at.term_written-returns-in-Untyped t c).After-head_of)) (omega (arith, trm-fits (goal.at.term_written-returns-in-Untyped t c).After-head_of)) (let z = trm-some (goal.at.term_written-returns-in-Untyped t c).After-head_of in omega (arith, trm-room (goal.at.term_written-returns-in-Untyped t c).After-head_of)) c.put-in-Untyped.ensures.0 c.put-in-Untyped.ensures.1)) (omega arith) (omega arith))
+    let one = single_other a.f.now a.k (trm-p (goal.at.term_written-returns-in_default t c).After-head_of) a.off 0 a.to _ (sym c.head_of.ensures.0) (subst NoStruct (sym c.head_of.ensures.0) (trm-core (goal.at.term_written-returns-in_default t c).After-head_of).1) c.in_default.not-Arr in
+    let w = put_single c.requires.5 a.at (trm-p (goal.at.term_written-returns-in_default t c).After-head_of) a.to a.off (omega (arith, trm-room (goal.at.term_written-returns-in_default t c).After-head_of, trm-some (goal.at.term_written-returns-in_default t c).After-head_of)) (omega (arith, trm-fits (goal.at.term_written-returns-in_default t c).After-head_of)) a.f.now a.k _ (omega (arith, trm-low (goal.at.term_written-returns-in_default t c).After-head_of, c.requires.4.terms.few))
+    one.1 c.put-in_default.ensures.0 c.put-in_default.ensures.1 in
+    (written_same (sym (trm-same (goal.at.term_written-returns-in_default t c).After-head_of)) w.0, w.1, past_later a.at a.off (past_kept a.at a.off c.requires.7 w.1 (omega arith) (put_memo c.requires.5 a.at (trm-p (goal.at.term_written-returns-in_default t c).After-head_of) a.to a.off (let z = trm-some (goal.at.term_written-returns-in_default t c).After-head_of in omega (arith, trm-room (goal.at.term_written-returns-in_default t c).After-head_of)) (omega (arith, trm-fits (goal.at.term_written-returns-in_default t c).After-head_of)) (let z = trm-some (goal.at.term_written-returns-in_default t c).After-head_of in omega (arith, trm-room (goal.at.term_written-returns-in_default t c).After-head_of)) c.put-in_default.ensures.0 c.put-in_default.ensures.1)) (omega arith) (omega arith))
