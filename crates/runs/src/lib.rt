@@ -3,7 +3,7 @@
 // for the table of extents, and nothing of the file's contents. A substitution is lent as bytes, that of variable 0 first.
 #![tactic(auto)]
 
-ghost use Rattle.std.specs.Prelude.{◌≡◌, ◌+◌, ◌<◌, ◌≤◌, length};
+ghost use Rattle.std.specs.Prelude.{◌≡◌, ◌↔◌, IsTrue, suc, ◌+◌, ◌<◌, ◌≤◌, length};
 ghost use Rattle.words.specs.Decide.{does};
 ghost use Rattle.rules.specs.Limits.{size_limit, page_bytes};
 ghost use Rattle.rules.specs.Types.{RegionKind, variable, live, sub};
@@ -27,19 +27,13 @@ const SHORT: usize = 2;
 fn same_prim(f: &[u8], x: Primitive, from: usize, y: Primitive) -> bool
     ensures { (j : RegionKind) → result ≡ does (dec_placed (placed_of j f.now x) (moved from (placed_of j f.now y))) }
 {
-    let x_off = x.off;
-    let y_off = y.off;
-    let x_place = x.place;
-    let y_place = y.place;
-    let x_to = x.to;
-    let y_to = y.to;
-    if x_off < from {
+    if x.off < from {
         return false;
     }
-    if (x_place == y_place) & flattening::agree(x_to, y_to) {
-        return x_off - from == y_off;
+    if (x.place == y.place) & flattening::agree(x.to, y.to) {
+        return x.off - from == y.off;
     }
-    (x_off - from == y_off) & equality::same_places(f, x_place, &x_to, y_place, &y_to)
+    (x.off - from == y.off) & equality::same_places(f, x.place, &x.to, y.place, &y.to)
 }
 
 // Whether the `many` primitives of the term at place b under q are those of the term at place a under p, from position d on: by a descent
@@ -64,13 +58,10 @@ fn short_run(
     if !same_prim(f, first, from, positions::place_prim(f, n, k, b, q, 0, tab)) {
         return false;
     }
-    let mut i = 1;
-    while i < many {
+    for i in 1..many {
         let x = positions::place_prim(f, n, k, a, p, d + i, tab);
         let y = positions::place_prim(f, n, k, b, q, i, tab);
-        if same_prim(f, x, from, y) {
-            i += 1;
-        } else {
+        if !same_prim(f, x, from, y) {
             return false;
         }
     }
@@ -92,13 +83,10 @@ fn entries_same(
 {
     let first = flattening::entry(subs, spots, d);
     let from = first.off;
-    let mut i = 0;
-    while i < many {
+    for i in 0..many {
         let x = flattening::entry(subs, spots, d + i);
         let y = flattening::entry(subs2, spots2, i);
-        if same_prim(f, x, from, y) {
-            i += 1;
-        } else {
+        if !same_prim(f, x, from, y) {
             return false;
         }
     }
@@ -170,17 +158,9 @@ pub fn run_from(
 {
     let a = terms::place_of(n, u);
     let b = terms::place_of(n, t);
-    let e = positions::extent_in(tab, a);
-    let g = positions::extent_in(tab, b);
-    let most = e.count;
-    let many = g.count;
-    if many == 0 {
-        return false;
-    }
-    if most < d {
-        return false;
-    }
-    if most - d < many {
+    let most = positions::extent_in(tab, a).count;
+    let many = positions::extent_in(tab, b).count;
+    if many == 0 || most < d || most - d < many {
         return false;
     }
     run_places(
@@ -236,15 +216,18 @@ pub fn in_page(
     requires { (Table f.now n k tab.now) × (length p.now ≤ 8) × (length q.now ≤ 8) × (x < page_bytes) }
     ensures { InPageIs f.now u p.now x t q.now result }
 {
-    let e = positions::extent_at(n, u, tab, f, k);
-    let size = e.size;
-    if size == 0 {
-        return false;
-    }
-    if x / size * size + size > Machine::PAGE_BYTES as usize {
+    let size = positions::extent_at(n, u, tab, f, k).size;
+    if size == 0 || x / size * size + size > Machine::PAGE_BYTES as usize {
         return false;
     }
     run_at(f, n, k, u, p, x % size, t, q, tab)
+}
+
+// Whether the owner of a page is region r: an owner is one more than its region's number, and 0 where the page is free.
+fn owned(owner: u8, r: Live) -> bool
+    ensures { IsTrue result ↔ (owner ≡ suc r.0) }
+{
+    usize::from(owner) == usize::from(r.0) + 1
 }
 
 // Kind 22, and a pointer that is not zero: whether address a is one of the run of term t under q in live region r, whose objects
@@ -265,14 +248,7 @@ pub fn stands(
     requires { (Table f.now n k tab.now) × (length p.now ≤ 8) × (length q.now ≤ 8) }
     ensures { StandsIs f.now r.0 owner u p.now a t q.now result }
 {
-    let region = r.0;
-    if a >= Machine::MEMORY_BYTES {
-        return false;
-    }
-    if owner == 0 {
-        return false;
-    }
-    if owner - 1 != region {
+    if a >= Machine::MEMORY_BYTES || !owned(owner, r) {
         return false;
     }
     in_page(f, n, k, u, p, (a % Machine::PAGE_BYTES) as usize, t, q, tab)
@@ -284,17 +260,7 @@ pub fn in_untyped(r: Live, owner: u8, u: usize, a: u32, size: usize) -> bool
     requires { size < 4294967296 }
     ensures { UntypedIs r.0 owner u a size result }
 {
-    let region = r.0;
-    if a >= Machine::MEMORY_BYTES {
-        return false;
-    }
-    if owner == 0 {
-        return false;
-    }
-    if owner - 1 != region {
-        return false;
-    }
-    if u != UNTYPED {
+    if a >= Machine::MEMORY_BYTES || !owned(owner, r) || u != UNTYPED {
         return false;
     }
     (a % Machine::PAGE_BYTES) as usize + size <= Machine::PAGE_BYTES as usize

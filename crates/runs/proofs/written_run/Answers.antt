@@ -1,5 +1,4 @@
 -- `runs::written_run` meets its contract: both terms are written out, and then compared. Assumes nothing.
-use Rattle.positions.specs.Table.{term_layout}
 use Rattle.positions.specs.TableLaws.{known_table}
 use Rattle.flattening.specs.Laws.{room_fresh, past_none}
 use native.Mathlib.Omega.{arith}
@@ -16,14 +15,3 @@ term_written-requires-2 c =
     let a = c.args in
     let q = c.requires in
     (q.2, omega (arith, q.0.sized a.b q.2 (omega (arith, q.5, q.6))), omega (arith, q.0.counts a.b q.2), q.4, known_table a.f.now a.n a.k a.tab.now q.0, room_fresh _, q.0.counted.few, past_none _ _ _ _)
-
-pub entries_same-requires : goal.entries_same-requires
-entries_same-requires c =
-    let q = c.requires in
-    (q.6, omega (arith, q.7, q.0.counts c.args.a q.1))
-
-pub returns : goal.returns
-returns c =
-    let a = c.args in
-    let q = c.requires in
-    c.entries_same.ensures.is (term_layout a.f.now a.k a.a) a.p (term_layout a.f.now a.k a.b) a.q c.term_written.ensures.0 c.term_written-2.ensures.0 q.5 q.7
