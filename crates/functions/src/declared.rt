@@ -1,7 +1,7 @@
 // Refusal 6: what the function with record 7 at h declares.
 ghost use Rattle.std.specs.Prelude.{◌≡◌, ◌<◌};
 ghost use Rattle.words.specs.First.{first};
-ghost use Rattle.rules.specs.Decode.{module_of, start_of};
+ghost use Rattle.rules.specs.Decode.{module_of};
 ghost use Rattle.rules.specs.Verdict.{function_test};
 ghost use Rattle.terms.specs.Extents.{Terms};
 ghost use Rattle.functions.specs.Functions.{place_limit, Known, function_at, scope_in};
@@ -17,7 +17,7 @@ fn scope_in(x: Record, n: usize, j: usize) -> usize
     ensures { result ≡ scope_in x n j }
 {
     if j < n {
-        x.a as usize
+        usize::from(x.a)
     } else {
         walk::file::regions_of(x)
     }
@@ -30,7 +30,7 @@ fn region_fits(f: &[u8], n: usize, h: usize, i: usize) -> bool
     ensures { result ≡ region_fits (function_at f.now h) i }
 {
     let x = walk::file::record_at(f, h);
-    let most = scope_in(x, x.a as usize, i);
+    let most = scope_in(x, usize::from(x.a), i);
     let t = region_term(f, h, i);
     (t == UNTYPED) | terms::uses(f, n, t, most)
 }
@@ -55,15 +55,7 @@ fn regions_fit(f: &[u8], n: usize, h: usize) -> bool
 {
     let x = walk::file::record_at(f, h);
     let count = walk::file::regions_of(x);
-    let mut i = 0;
-    while i < count {
-        if region_fits(f, n, h, i) {
-            i = i + 1;
-        } else {
-            return false;
-        }
-    }
-    true
+    (0..count).all(|i| region_fits(f, n, h, i))
 }
 
 fn registers_fit(f: &[u8], n: usize, h: usize) -> bool
@@ -72,16 +64,7 @@ fn registers_fit(f: &[u8], n: usize, h: usize) -> bool
     ensures { result ≡ registers_fit (function_at f.now h) }
 {
     let x = walk::file::record_at(f, h);
-    let count = x.c as usize;
-    let mut i = 0;
-    while i < count {
-        if register_fits(f, n, h, i) {
-            i = i + 1;
-        } else {
-            return false;
-        }
-    }
-    true
+    (0..usize::from(x.c)).all(|i| register_fits(f, n, h, i))
 }
 
 // The return is primitive and uses region parameters only.
@@ -92,7 +75,7 @@ fn result_fits(f: &[u8], n: usize, h: usize) -> bool
 {
     let x = walk::file::record_at(f, h);
     let t = walk::file::return_of(x);
-    terms::primitive(f, n, t) & terms::uses(f, n, t, x.a as usize)
+    terms::primitive(f, n, t) & terms::uses(f, n, t, usize::from(x.a))
 }
 
 pub fn declared(f: &[u8], n: usize, h: usize) -> bool
@@ -120,15 +103,7 @@ fn parameters_fit(f: &[u8], n: usize, h: usize) -> bool
 {
     let x = walk::file::record_at(f, h);
     let count = walk::file::parameters_of(x);
-    let mut i = 0;
-    while i < count {
-        if parameter_fits(f, n, h, i) {
-            i = i + 1;
-        } else {
-            return false;
-        }
-    }
-    true
+    (0..count).all(|i| parameter_fits(f, n, h, i))
 }
 
 // Function 0 has no region parameters, and its parameters and return are i32.
@@ -143,12 +118,19 @@ pub fn entry(f: &[u8], n: usize, h: usize) -> bool
 }
 
 // Refusal 6's test of function g.
-fn function_fits(f: &[u8], n: usize, h: usize, g: usize) -> bool
-    requires fact_1 { Terms f.now n }
-    requires fact_2 { h < place_limit }
-    requires fact_3 { h ≡ start_of f.now g }
+fn function_fits(
+    f: &[u8],
+    n: usize,
+    k: usize,
+    c: usize,
+    starts: &[usize; CALLEES],
+    g: usize,
+) -> bool
+    requires known { Known f.now n k c starts.now }
+    requires below { g < c }
     ensures { result ≡ function_test (module_of f.now) g }
 {
+    let h = walk::tables::start_of(f, starts, g);
     declared(f, n, h) & (!(g == 0) | entry(f, n, h))
 }
 
@@ -157,14 +139,7 @@ pub fn first_function(f: &[u8], n: usize, k: usize, c: usize, starts: &[usize; C
     requires { Known f.now n k c starts.now }
     ensures { result ≡ first c (function_test (module_of f.now)) }
 {
-    let mut g = 0;
-    while g < c {
-        let h = walk::tables::start_of(f, starts, g);
-        if function_fits(f, n, h, g) {
-            g = g + 1;
-        } else {
-            return g;
-        }
-    }
-    c
+    (0..c)
+        .find(|g| !function_fits(f, n, k, c, starts, *g))
+        .unwrap_or(c)
 }

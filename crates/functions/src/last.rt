@@ -11,7 +11,7 @@ use rules::limits::{JUMP, RETURN};
 pub fn ends(kind: u8) -> bool
     ensures { result ≡ ends kind }
 {
-    (kind == JUMP) | (kind == RETURN)
+    matches!(kind, JUMP | RETURN)
 }
 
 // The record of the last instruction of the function with record 7 at h.
@@ -21,8 +21,7 @@ pub fn last_place(f: &[u8], h: usize) -> usize
 {
     let x = walk::file::record_at(f, h);
     let count = walk::file::instructions_of(x);
-    let i = crate::readers::less_one(count);
-    crate::readers::place_in(f, h, i)
+    crate::readers::place_in(f, h, count.saturating_sub(1))
 }
 
 // Refusal 8's test of function g, whose record 7 is at h and whose last instruction is at record r.

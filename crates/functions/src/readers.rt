@@ -1,5 +1,5 @@
 // The terms that a function's records name, and the records of its instructions, by the place h of its record 7.
-ghost use Rattle.std.specs.Prelude.{◌≡◌, ◌<◌, ◌-◌};
+ghost use Rattle.std.specs.Prelude.{◌≡◌, ◌<◌};
 ghost use Rattle.functions.specs.Functions.{place_limit, register_term, region_term, place_in};
 
 use rules::limits::MOST_ENTRIES;
@@ -10,8 +10,7 @@ pub fn register_term(f: &[u8], h: usize, i: usize) -> usize
     ensures { result ≡ register_term f.now h i }
 {
     let from = walk::code::registers_at(f, h);
-    let x = walk::file::byte_at(f, from + i / MOST_ENTRIES, i % MOST_ENTRIES + 1);
-    x as usize
+    usize::from(walk::file::byte_at(f, from + i / MOST_ENTRIES, i % MOST_ENTRIES + 1))
 }
 
 // The entry of region i in record 8: a term, or 255.
@@ -23,13 +22,6 @@ pub fn region_term(f: &[u8], h: usize, i: usize) -> usize
     walk::file::entry_of(x, i)
 }
 
-// One less, or 0.
-pub fn less_one(n: usize) -> usize
-    ensures { result ≡ n - 1 }
-{
-    if 0 < n { n - 1 } else { 0 }
-}
-
 // The record of instruction i: the instructions before it are passed, a 33 with its 35. 0 where there is none.
 pub fn place_in(f: &[u8], h: usize, i: usize) -> usize
     requires { h < place_limit }
@@ -37,14 +29,12 @@ pub fn place_in(f: &[u8], h: usize, i: usize) -> usize
 {
     let x = walk::file::record_at(f, h);
     let count = walk::file::instructions_of(x);
-    let mut r = walk::code::code_at(f, h);
-    let mut j = 0;
-    if i < count {
-        while j < i {
-            r = walk::code::after(f, r);
-            j = j + 1;
-        }
-        return r;
+    if i >= count {
+        return 0;
     }
-    0
+    let mut r = walk::code::code_at(f, h);
+    for _ in 0..i {
+        r = walk::code::after(f, r);
+    }
+    r
 }

@@ -13,4 +13,4 @@ use Prim.Native.Nat.{ℕ}
 use Rattle.functions.proofs.declared.region_fits.Goals as goal
 
 pub returns : goal.returns
-returns c = let a = c.args in ap (λ u. eqb c.region_term-t.result untyped_mark || u) c.uses.ensures ∙ ap₂ (λ (most t : ℕ). eqb t untyped_mark || does (dec_uses most ((module_of a.f.now).term t))) (c.scope_in-most.ensures ∙ ap (λ (x : Record). scope_in x x.a a.i) c.record_at-x.ensures) c.region_term-t.ensures ∙ region_fits_law a.f.now a.h a.i
+returns c = let a = c.args in ap (λ u. eqb c.region_term-t.result untyped_mark || u) c.uses.ensures ∙ ap₂ (λ (most t : ℕ). eqb t untyped_mark || does (dec_uses most ((module_of a.f.now).term t))) (c.scope_in-most.ensures ∙ ap (λ (p : ℕ). scope_in c.record_at-x.result p a.i) c.from.ensures ∙ ap (λ (x : Record). scope_in x x.a a.i) c.record_at-x.ensures) c.region_term-t.ensures ∙ region_fits_law a.f.now a.h a.i

@@ -11,4 +11,4 @@ use Prim.Native.Nat.{ℕ}
 use Rattle.functions.proofs.declared.result_fits.Goals as goal
 
 pub returns : goal.returns
-returns c = let a = c.args in let m = module_of a.f.now in ap₂ ◌&&◌ c.primitive.ensures c.uses.ensures ∙ ap (λ (t : ℕ). does (dec_primitive (m.term t)) && does (dec_uses c.record_at-x.result.a (m.term t))) c.return_of-t.ensures ∙ ap (λ (x : Record). does (dec_primitive (m.term (return_of x))) && does (dec_uses x.a (m.term (return_of x)))) c.record_at-x.ensures ∙ result_fits_law a.f.now a.h
+returns c = let a = c.args in let m = module_of a.f.now in ap₂ ◌&&◌ c.primitive.ensures c.uses.ensures ∙ ap (λ (p : ℕ). does (dec_primitive (m.term c.return_of-t.result)) && does (dec_uses p (m.term c.return_of-t.result))) c.from.ensures ∙ ap (λ (t : ℕ). does (dec_primitive (m.term t)) && does (dec_uses c.record_at-x.result.a (m.term t))) c.return_of-t.ensures ∙ ap (λ (x : Record). does (dec_primitive (m.term (return_of x))) && does (dec_uses x.a (m.term (return_of x)))) c.record_at-x.ensures ∙ result_fits_law a.f.now a.h

@@ -5,7 +5,7 @@ use Rattle.functions.proofs.declared.scope_in.Goals as goal
 
 pub returns-then-j-n : goal.returns-then-j-n
 unfolding scope_in
-returns-then-j-n c = rw (lt-ltb _ _ c.if-j-n.true)
+returns-then-j-n c = rw (lt-ltb _ _ c.if-j-n.true) c.from.ensures
 
 pub returns-else-j-n : goal.returns-else-j-n
 unfolding scope_in

@@ -7,4 +7,4 @@ use Rattle.rules.specs.File.{instructions_of}
 use Rattle.functions.proofs.last.last_place.Goals as goal
 
 pub returns : goal.returns
-returns c = let a = c.args in c.place_in.ensures ∙ ap (place_in a.f.now a.h) (c.less_one-i.ensures ∙ ap (λ (n : ℕ). n - 1) (c.instructions_of-count.ensures.0 ∙ ap (λ (x : Record). instructions_of x) c.record_at-x.ensures ∙ sym (length_at a.f.now a.h)))
+returns c = let a = c.args in c.place_in.ensures ∙ ap (place_in a.f.now a.h) (c.saturating_sub.ensures ∙ ap (λ (n : ℕ). n - 1) (c.instructions_of-count.ensures.0 ∙ ap (λ (x : Record). instructions_of x) c.record_at-x.ensures ∙ sym (length_at a.f.now a.h)))

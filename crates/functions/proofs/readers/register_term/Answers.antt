@@ -18,4 +18,4 @@ overflow_add-from c = omega (arith, registers_far c.args.f.now c.args.h)
 
 pub returns : goal.returns
 unfolding register_term
-returns c = rw (← c.registers_at-from.ensures) (c.byte_at-x.ensures ∙ byte-entry _ (c.args.i % 7))
+returns c = rw (← c.registers_at-from.ensures) (c.from.ensures ∙ c.byte_at.ensures ∙ byte-entry _ (c.args.i % 7))
