@@ -20,7 +20,7 @@ fn arity(f: &[u8], n: usize, number: usize) -> usize
     ensures { result ≡ arity_of f.now n number }
 {
     let x = walk::file::record_at(f, n + 2 * number);
-    x.a as usize
+    usize::from(x.a)
 }
 
 // The term of its field i.
@@ -57,15 +57,7 @@ pub fn first_term(f: &[u8], n: usize, k: usize) -> usize
     requires { Counted f.now n k }
     ensures { result ≡ first n (term_test (module_of f.now)) }
 {
-    let mut t = 0;
-    while t < n {
-        if term_fits(f, n, k, t) {
-            t = t + 1;
-        } else {
-            return t;
-        }
-    }
-    n
+    (0..n).find(|t| !term_fits(f, n, k, *t)).unwrap_or(n)
 }
 
 // Field i of struct `number` uses its regions.
@@ -85,16 +77,7 @@ fn fields_fit(f: &[u8], n: usize, number: usize) -> bool
     ensures { result ≡ fields_fit f.now n number }
 {
     let x = walk::file::record_at(f, n + 2 * number);
-    let count = x.b as usize;
-    let mut i = 0;
-    while i < count {
-        if field_fits(f, n, number, i) {
-            i = i + 1;
-        } else {
-            return false;
-        }
-    }
-    true
+    (0..usize::from(x.b)).all(|i| field_fits(f, n, number, i))
 }
 
 // Refusal 5's test of struct `number`.
@@ -112,13 +95,5 @@ pub fn first_struct(f: &[u8], n: usize, k: usize) -> usize
     requires { Counted f.now n k }
     ensures { result ≡ first k (struct_test (module_of f.now)) }
 {
-    let mut s = 0;
-    while s < k {
-        if struct_fits(f, n, k, s) {
-            s = s + 1;
-        } else {
-            return s;
-        }
-    }
-    k
+    (0..k).find(|s| !struct_fits(f, n, k, *s)).unwrap_or(k)
 }
