@@ -4,3 +4,4 @@ pub mod Types
 pub mod Rules
 pub mod Kinds
 pub mod Calls
+pub mod Function

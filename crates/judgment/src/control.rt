@@ -1,104 +1,78 @@
 // Kinds 29 to 34.
 ghost use Rattle.std.specs.Prelude.{◌≡◌, ◌<◌, ◌^◌, ltb};
-ghost use Rattle.words.specs.Decide.{does};
 ghost use Rattle.rules.specs.File.{record_of};
 ghost use Rattle.rules.specs.Module.{input, output, jump, branch, return};
-ghost use Rattle.rules.specs.Decision.{dec_typed};
-ghost use Rattle.rules.specs.Decode.{module_of, control_of};
-ghost use Rattle.terms.specs.Extents.{Terms};
-ghost use Rattle.functions.specs.Functions.{place_limit, Known, function_at};
+ghost use Rattle.rules.specs.Decode.{control_of};
+ghost use Rattle.functions.specs.Functions.{Known};
 ghost use Rattle.judgment.specs.Kinds.{call_at};
-ghost use Rattle.judgment.specs.Types.{Described};
+ghost use Rattle.judgment.specs.Function.{in_file, keeps_rule};
 
-use crate::registers::{has_width, is_integer};
-use crate::types::{OPERANDS, entry, kind_in, term_in};
+use crate::function::Function;
 use rules::limits::CALLEES;
 
-// 29: byte c of the form into i8 a.
-pub fn input(f: &[u8], n: usize, h: usize, types: &[usize; OPERANDS], a: usize, c: usize) -> bool
-    requires fact_1 { Terms f.now n }
-    requires fact_2 { h < place_limit }
-    requires fact_3 { Described f.now h types.now }
-    ensures { result ≡ does (dec_typed (module_of f.now) (function_at f.now h) (input a c)) }
-{
-    has_width(f, n, h, types, 4, c) & has_width(f, n, h, types, 1, a)
-}
+impl Function<'_> {
+    // 29: byte c of the form into i8 a.
+    pub fn input(&self, a: usize, c: usize) -> bool
+        ensures { result ≡ keeps_rule self.now (input a c) }
+    {
+        self.has_width(4, c) & self.has_width(1, a)
+    }
 
-// 30: i8 b to the output.
-pub fn output(f: &[u8], n: usize, h: usize, types: &[usize; OPERANDS], b: usize) -> bool
-    requires fact_1 { Terms f.now n }
-    requires fact_2 { h < place_limit }
-    requires fact_3 { Described f.now h types.now }
-    ensures { result ≡ does (dec_typed (module_of f.now) (function_at f.now h) (output b)) }
-{
-    has_width(f, n, h, types, 1, b)
-}
+    // 30: i8 b to the output.
+    pub fn output(&self, b: usize) -> bool
+        ensures { result ≡ keeps_rule self.now (output b) }
+    {
+        self.has_width(1, b)
+    }
 
-// d is an instruction.
-fn is_target(f: &[u8], h: usize, d: u32) -> bool
-    ensures { result ≡ ltb d (function_at f.now h).code_length }
-{
-    let x = walk::file::record_at(f, h);
-    let count = walk::file::instructions_of(x);
-    (d as usize) < count
-}
+    // d is an instruction.
+    fn is_target(&self, d: u32) -> bool
+        ensures { result ≡ ltb d (in_file self.now).code_length }
+    {
+        let x = walk::file::record_at(self.file, self.head);
+        (d as usize) < walk::file::instructions_of(x)
+    }
 
-// 31: to d.
-pub fn jump(f: &[u8], h: usize, d: u32) -> bool
-    ensures { result ≡ does (dec_typed (module_of f.now) (function_at f.now h) (jump d)) }
-{
-    is_target(f, h, d)
-}
+    // 31: to d.
+    pub fn jump(&self, d: u32) -> bool
+        ensures { result ≡ keeps_rule self.now (jump d) }
+    {
+        self.is_target(d)
+    }
 
-// 32: to d if integer a is not zero.
-pub fn branch(f: &[u8], n: usize, h: usize, types: &[usize; OPERANDS], a: usize, d: u32) -> bool
-    requires fact_1 { Terms f.now n }
-    requires fact_2 { h < place_limit }
-    requires fact_3 { Described f.now h types.now }
-    ensures { result ≡ does (dec_typed (module_of f.now) (function_at f.now h) (branch a d)) }
-{
-    is_integer(f, n, h, types, a) & is_target(f, h, d)
-}
+    // 32: to d if integer a is not zero.
+    pub fn branch(&self, a: usize, d: u32) -> bool
+        ensures { result ≡ keeps_rule self.now (branch a d) }
+    {
+        self.is_integer(a) & self.is_target(d)
+    }
 
-// 34: a is returned.
-pub fn returned(f: &[u8], n: usize, h: usize, types: &[usize; OPERANDS], a: usize) -> bool
-    requires fact_1 { Terms f.now n }
-    requires fact_2 { h < place_limit }
-    requires fact_3 { Described f.now h types.now }
-    ensures { result ≡ does (dec_typed (module_of f.now) (function_at f.now h) (return a)) }
-{
-    let x = walk::file::record_at(f, h);
-    let u = walk::file::return_of(x);
-    let e = entry(f, n, h, types, a);
-    (kind_in(e) != 0) & equality::equal(f, n, term_in(e), u)
-}
+    // 34: a is returned.
+    pub fn returned(&self, a: usize) -> bool
+        ensures { result ≡ keeps_rule self.now (return a) }
+    {
+        let x = walk::file::record_at(self.file, self.head);
+        let u = walk::file::return_of(x);
+        let e = self.entry(a);
+        (e.form != 0) & equality::equal(self.file, self.terms, usize::from(e.term), u)
+    }
 
-// The instruction at record r, with this record, keeps the rule of its kind.
-pub fn control(
-    f: &[u8],
-    n: usize,
-    k: usize,
-    c: usize,
-    starts: &[usize; CALLEES],
-    h: usize,
-    types: &[usize; OPERANDS],
-    r: usize,
-) -> bool
-    requires fact_1 { Known f.now n k c starts.now }
-    requires fact_2 { h < place_limit }
-    requires fact_3 { r < 2 ^ 32 }
-    requires fact_4 { Described f.now h types.now }
-    ensures { result ≡ does (dec_typed (module_of f.now) (function_at f.now h) (control_of (record_of f.now r) (call_at f.now r))) }
-{
-    let x = walk::file::record_at(f, r);
-    let kind = x.kind;
-    let a = x.a as usize;
-    match kind {
-        29 => input(f, n, h, types, a, x.c as usize),
-        30 => output(f, n, h, types, x.b as usize),
-        31 => jump(f, h, x.d),
-        32 => branch(f, n, h, types, a, x.d),
-        33 => crate::calls::call(f, n, k, c, starts, h, types, r),
-        _ => returned(f, n, h, types, a),
+    // The instruction at record r, with this record, keeps the rule of its kind. The file has k structs, and c functions that start at
+    // `starts`.
+    pub fn control(&self, k: usize, c: usize, starts: &[usize; CALLEES], r: usize) -> bool
+        requires known { Known self.now.file.now self.now.terms k c starts.now }
+        requires near { r < 2 ^ 32 }
+        ensures { result ≡ keeps_rule self.now (control_of (record_of self.now.file.now r) (call_at self.now.file.now r)) }
+    {
+        let x = walk::file::record_at(self.file, r);
+        let a = usize::from(x.a);
+        match x.kind {
+            29 => self.input(a, usize::from(x.c)),
+            30 => self.output(usize::from(x.b)),
+            31 => self.jump(x.d),
+            32 => self.branch(a, x.d),
+            33 => self.call(k, c, starts, r),
+            _ => self.returned(a),
+        }
     }
 }

@@ -5,5 +5,6 @@
 pub mod arithmetic;
 pub mod calls;
 pub mod control;
+pub mod function;
 pub mod registers;
 pub mod types;

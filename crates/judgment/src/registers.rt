@@ -1,23 +1,20 @@
-// What the rules ask of the registers of the function with record 7 at h.
-ghost use Rattle.std.specs.Prelude.{◌≡◌, ◌<◌};
-ghost use Rattle.rules.specs.Types.{region_of};
+// What the rules ask of a function's registers.
+ghost use Rattle.std.specs.Prelude.{◌≡◌, ◌<◌, ltb};
+ghost use Rattle.rules.specs.Module.{regions};
+ghost use Rattle.words.specs.Decide.{does};
+ghost use Rattle.rules.specs.Types.{region_of, dec_tree};
+ghost use Rattle.rules.specs.Decode.{module_of};
 ghost use Rattle.terms.specs.Extents.{Terms};
 ghost use Rattle.functions.specs.Functions.{place_limit, function_at};
-ghost use Rattle.judgment.specs.Types.{Described};
+ghost use Rattle.judgment.specs.Types.{Describes};
 ghost use Rattle.judgment.specs.Registers.{is_register, is_integer, is_pointer, is_untyped, has_width, same_types, points_to, together};
+ghost use Rattle.judgment.specs.Function.{in_file};
 
-use crate::types::{OPERANDS, entry, kind_in, number_in, region_in, target_in, term_in};
+use crate::function::Function;
+use crate::types::{OPERANDS, RegisterType, description};
 use functions::readers::register_term;
 
-// a is a register.
-pub fn is_register(f: &[u8], h: usize, a: usize) -> bool
-    ensures { result ≡ is_register (function_at f.now h) a }
-{
-    let c = walk::file::byte_at(f, h, 3);
-    a < c as usize
-}
-
-// The region of its type, where it is a pointer.
+// The region of the type of register a, where it is a pointer.
 pub fn region_of(f: &[u8], n: usize, h: usize, a: usize) -> u8
     requires fact_1 { Terms f.now n }
     requires fact_2 { h < place_limit }
@@ -28,100 +25,85 @@ pub fn region_of(f: &[u8], n: usize, h: usize, a: usize) -> u8
     v.0
 }
 
-pub fn is_integer(f: &[u8], n: usize, h: usize, types: &[usize; OPERANDS], a: usize) -> bool
-    requires fact_1 { Terms f.now n }
-    requires fact_2 { h < place_limit }
-    requires fact_3 { Described f.now h types.now }
-    ensures { result ≡ is_integer (function_at f.now h) a }
-{
-    let e = entry(f, n, h, types, a);
-    kind_in(e) == 1
-}
+impl Function<'_> {
+    // The type of register a, from the table where it is there.
+    pub fn entry(&self, a: usize) -> RegisterType
+        ensures { Describes self.now.file.now self.now.head a result }
+    {
+        if a < OPERANDS {
+            let e = self.types[a];
+            if e.form != 0 {
+                return e;
+            }
+        }
+        description(self.file, self.terms, self.head, a)
+    }
 
-pub fn is_pointer(f: &[u8], n: usize, h: usize, types: &[usize; OPERANDS], a: usize) -> bool
-    requires fact_1 { Terms f.now n }
-    requires fact_2 { h < place_limit }
-    requires fact_3 { Described f.now h types.now }
-    ensures { result ≡ is_pointer (function_at f.now h) a }
-{
-    let e = entry(f, n, h, types, a);
-    kind_in(e) == 2
-}
+    pub fn is_integer(&self, a: usize) -> bool
+        ensures { result ≡ is_integer (in_file self.now) a }
+    {
+        self.entry(a).form == 1
+    }
 
-pub fn is_untyped(f: &[u8], n: usize, h: usize, types: &[usize; OPERANDS], a: usize) -> bool
-    requires fact_1 { Terms f.now n }
-    requires fact_2 { h < place_limit }
-    requires fact_3 { Described f.now h types.now }
-    ensures { result ≡ is_untyped (function_at f.now h) a }
-{
-    let e = entry(f, n, h, types, a);
-    kind_in(e) == 11
-}
+    pub fn is_pointer(&self, a: usize) -> bool
+        ensures { result ≡ is_pointer (in_file self.now) a }
+    {
+        self.entry(a).form == 2
+    }
 
-// a is the integer of w bytes.
-pub fn has_width(
-    f: &[u8],
-    n: usize,
-    h: usize,
-    types: &[usize; OPERANDS],
-    w: usize,
-    a: usize,
-) -> bool
-    requires fact_1 { Terms f.now n }
-    requires fact_2 { h < place_limit }
-    requires fact_3 { Described f.now h types.now }
-    ensures { result ≡ has_width (function_at f.now h) w a }
-{
-    let e = entry(f, n, h, types, a);
-    (kind_in(e) == 1) & (number_in(e) == w)
-}
+    pub fn is_untyped(&self, a: usize) -> bool
+        ensures { result ≡ is_untyped (in_file self.now) a }
+    {
+        self.entry(a).form == 11
+    }
 
-// a and b have equal types.
-pub fn same_types(
-    f: &[u8],
-    n: usize,
-    h: usize,
-    types: &[usize; OPERANDS],
-    a: usize,
-    b: usize,
-) -> bool
-    requires fact_1 { Terms f.now n }
-    requires fact_2 { h < place_limit }
-    requires fact_3 { Described f.now h types.now }
-    ensures { result ≡ same_types (function_at f.now h) a b }
-{
-    let d = entry(f, n, h, types, a);
-    let e = entry(f, n, h, types, b);
-    (kind_in(d) != 0) & ((kind_in(e) != 0) & equality::equal(f, n, term_in(d), term_in(e)))
-}
+    // a is the integer of w bytes.
+    pub fn has_width(&self, w: usize, a: usize) -> bool
+        ensures { result ≡ has_width (in_file self.now) w a }
+    {
+        let e = self.entry(a);
+        (e.form == 1) & (e.number as usize == w)
+    }
 
-// p points to the type of v.
-pub fn points_to(
-    f: &[u8],
-    n: usize,
-    h: usize,
-    types: &[usize; OPERANDS],
-    p: usize,
-    v: usize,
-) -> bool
-    requires fact_1 { Terms f.now n }
-    requires fact_2 { h < place_limit }
-    requires fact_3 { Described f.now h types.now }
-    ensures { result ≡ points_to (function_at f.now h) p v }
-{
-    let d = entry(f, n, h, types, p);
-    let e = entry(f, n, h, types, v);
-    ((kind_in(d) == 2) & (kind_in(e) != 0)) & equality::equal(f, n, target_in(d), term_in(e))
-}
+    // Terms t and u are equal.
+    fn equal(&self, t: u8, u: u8) -> bool
+        ensures { let m = module_of self.now.file.now in result ≡ does (dec_tree (m.term t) (m.term u)) }
+    {
+        equality::equal(self.file, self.terms, usize::from(t), usize::from(u))
+    }
 
-// a and b are pointers into one region.
-pub fn together(f: &[u8], n: usize, h: usize, types: &[usize; OPERANDS], a: usize, b: usize) -> bool
-    requires fact_1 { Terms f.now n }
-    requires fact_2 { h < place_limit }
-    requires fact_3 { Described f.now h types.now }
-    ensures { result ≡ together (function_at f.now h) a b }
-{
-    let d = entry(f, n, h, types, a);
-    let e = entry(f, n, h, types, b);
-    ((kind_in(d) == 2) & (kind_in(e) == 2)) & (region_in(d) == region_in(e))
+    // a and b have equal types.
+    pub fn same_types(&self, a: usize, b: usize) -> bool
+        ensures { result ≡ same_types (in_file self.now) a b }
+    {
+        let d = self.entry(a);
+        let e = self.entry(b);
+        (d.form != 0) & ((e.form != 0) & self.equal(d.term, e.term))
+    }
+
+    // p points to the type of v.
+    pub fn points_to(&self, p: usize, v: usize) -> bool
+        ensures { result ≡ points_to (in_file self.now) p v }
+    {
+        let d = self.entry(p);
+        let e = self.entry(v);
+        ((d.form == 2) & (e.form != 0)) & self.equal(d.target, e.term)
+    }
+
+    // a and b are pointers into one region.
+    pub fn together(&self, a: usize, b: usize) -> bool
+        ensures { result ≡ together (in_file self.now) a b }
+    {
+        let d = self.entry(a);
+        let e = self.entry(b);
+        ((d.form == 2) & (e.form == 2)) & (d.region == e.region)
+    }
+
+    // Region v is the function's.
+    pub fn in_scope(&self, v: usize) -> bool
+        ensures { result ≡ ltb v (regions (in_file self.now)) }
+    {
+        let x = walk::file::record_at(self.file, self.head);
+        v < walk::file::regions_of(x)
+    }
 }
