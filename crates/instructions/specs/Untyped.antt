@@ -1,4 +1,4 @@
--- What kinds 36 to 39 ask of a register, by its word and by the entry of record 8 of its region. Assumes nothing.
+-- What kinds 36 to 39 ask of a register, by its type and by the entry of record 8 of its region. Assumes nothing.
 use Rattle.std.specs.Prelude.{◌≡◌, Bool, ℕ, eqb}
 use Rattle.std.proofs.Math.Path.{ap, ap₂}
 use Rattle.std.proofs.Common.{◌∙◌}
@@ -14,7 +14,8 @@ use Rattle.rules.specs.Module.{regions}
 use Rattle.terms.specs.Readers.{entry_type, entry_bytes, entry_form}
 use Rattle.functions.specs.Functions.{function_at, region_term}
 use Rattle.judgment.specs.Registers.{decided, into_bytes, region_is}
-use Rattle.judgment.specs.Types.{kind_in, region_in, Describes}
+use Rattle.judgment.specs.Types.{Describes}
+use Rattle.judgment.specs.declared.types.RegisterType.{RegisterType}
 
 -- an entry of record 8 marks an untyped region by 255, and by nothing else
 untyped_entry : (f : Bytes) (u : ℕ) → eqb u untyped_mark ≡ does (dec_tree (entry_type f u) bytes)
@@ -24,8 +25,8 @@ untyped_entry f u = decided (dec_tree (entry_type f u) bytes) (eq_reads u untype
     back e (yes z) = z
     back e (no n) = absurd (entry_form f u n (ap form e))
 
-module _ (f : Bytes) (h a : ℕ) {e : ℕ} (d : Describes f h a e) (v u : ℕ) where
-  pub into_bytes_law : v ≡ region_in e → u ≡ region_term f h v → eqb (kind_in e) 11 && (ltb v (regions (function_at f h)) && eqb u untyped_mark) ≡ into_bytes (function_at f h) a
+module _ (f : Bytes) (h a : ℕ) {e : RegisterType} (d : Describes f h a e) (v u : ℕ) where
+  pub into_bytes_law : v ≡ e.region → u ≡ region_term f h v → eqb e.form 11 && (ltb v (regions (function_at f h)) && eqb u untyped_mark) ≡ into_bytes (function_at f h) a
   unfolding into_bytes
   into_bytes_law r t =
       let F = function_at f h in

@@ -2,10 +2,12 @@
 // by a number that has both terms and the position; whoever asks for one that is not remembered has it compared.
 ghost use Rattle.std.specs.Prelude.{◌≡◌, ◌<◌};
 ghost use Rattle.words.specs.Bytes.{Bytes};
-ghost use Rattle.positions.specs.Table.{Table};
 ghost use Rattle.instructions.specs.Plain.{themselves};
 ghost use Rattle.instructions.specs.Known.{run_key, run_stands, Remembered};
 ghost use Rattle.instructions.specs.Same.{same_prims};
+ghost use Rattle.instructions.specs.Code.{Tabled};
+
+use crate::code::Code;
 
 // The runs that are remembered, at most one in each place: a prime, so that those of neighbouring terms and positions fall on different
 // places.
@@ -32,60 +34,57 @@ fn themselves() -> [u8; 8]
     [0, 1, 2, 3, 4, 5, 6, 7]
 }
 
-// Whether the run of term t stands at position d of term s, as they are written.
-pub fn run_known(
-    f: &[u8],
-    n: usize,
-    k: usize,
-    tab: &[u64],
-    known: &mut [usize; RUNS],
-    s: usize,
-    d: u32,
-    t: usize,
-) -> bool
-    requires fact_1 { Table f.now n k tab.now }
-    requires fact_2 { (s < 256) × (t < 256) }
-    requires fact_3 { Remembered f.now known.old }
-    ensures { (result ≡ run_stands f.now s d t) × (Remembered f.now known.new) }
-{
-    let key = run_key(s, d, t);
-    let i = key % RUNS;
-    if known[i] == key {
-        return true;
+impl Code<'_, '_> {
+    // Whether the run of term t stands at position d of term s, as they are written.
+    pub fn run_known(&self, known: &mut [usize; RUNS], s: usize, d: u32, t: usize) -> bool
+        requires table { Tabled self.now }
+        requires bytes { (s < 256) × (t < 256) }
+        requires remembered { Remembered self.now.function.file.now known.old }
+        ensures stands { result ≡ run_stands self.now.function.file.now s d t }
+        ensures remembered { Remembered self.now.function.file.now known.new }
+    {
+        let key = run_key(s, d, t);
+        let i = key % RUNS;
+        if known[i] == key {
+            return true;
+        }
+        let same = themselves();
+        let f = self.function;
+        let stands = runs::run_from(
+            f.file,
+            f.terms,
+            self.structs,
+            s,
+            &same,
+            d as usize,
+            t,
+            &same,
+            self.table,
+        );
+        if stands {
+            known[i] = key;
+        }
+        stands
     }
-    let same = themselves();
-    let stands = runs::run_from(f, n, k, s, &same, d as usize, t, &same, tab);
-    if stands {
-        known[i] = key;
-    }
-    stands
-}
 
-// Whether terms u and t have the same primitives, as they are written: as many, and the run of t from the first on. Most that are compared
-// are one term.
-pub fn same_known(
-    f: &[u8],
-    n: usize,
-    k: usize,
-    tab: &[u64],
-    known: &mut [usize; RUNS],
-    u: usize,
-    t: usize,
-) -> bool
-    requires fact_1 { Table f.now n k tab.now }
-    requires fact_2 { (u < 256) × (t < 256) }
-    requires fact_3 { Remembered f.now known.old }
-    ensures { (result ≡ same_prims f.now u t) × (Remembered f.now known.new) }
-{
-    let e = positions::extent_in(tab, terms::place_of(n, u));
-    let count = e.count;
-    if u == t {
-        return 0 < count;
+    // Whether terms u and t have the same primitives, as they are written: as many, and the run of t from the first on. Most that are
+    // compared are one term.
+    pub fn same_known(&self, known: &mut [usize; RUNS], u: usize, t: usize) -> bool
+        requires table { Tabled self.now }
+        requires bytes { (u < 256) × (t < 256) }
+        requires remembered { Remembered self.now.function.file.now known.old }
+        ensures same { result ≡ same_prims self.now.function.file.now u t }
+        ensures remembered { Remembered self.now.function.file.now known.new }
+    {
+        let n = self.function.terms;
+        let count = positions::extent_in(self.table, terms::place_of(n, u)).count;
+        if u == t {
+            return 0 < count;
+        }
+        let other = positions::extent_in(self.table, terms::place_of(n, t)).count;
+        if count != other {
+            return false;
+        }
+        self.run_known(known, u, 0, t)
     }
-    let g = positions::extent_in(tab, terms::place_of(n, t));
-    let other = g.count;
-    if count != other {
-        return false;
-    }
-    run_known(f, n, k, tab, known, u, 0, t)
 }

@@ -3,6 +3,7 @@
 // established.
 #![tactic(auto)]
 
+pub mod code;
 pub mod known;
 pub mod memory;
 pub mod scan;

@@ -1,6 +1,5 @@
 -- `judgment::function::Function::points_to` meets its contract: by the registers' types.
-use mathlib.Core.Path.{ap, ap₂, ◌∙◌}
-use Prim.Native.Nat.{ℕ}
+use mathlib.Core.Path.{ap₂, ◌∙◌}
 use mathlib.Core.Bool.{◌&&◌}
 use lib.Dec.{eqb}
 use borrow.Author.Tests.{eqb-true}

@@ -1,6 +1,5 @@
 -- `judgment::function::Function::same_types` meets its contract: by the registers' types.
-use mathlib.Core.Path.{ap, ap₂, ◌∙◌}
-use Prim.Native.Nat.{ℕ}
+use mathlib.Core.Path.{ap₂, ◌∙◌}
 use mathlib.Core.Bool.{◌&&◌}
 use Rattle.words.specs.Decide.{does}
 use Rattle.rules.specs.Types.{variable, Tree, dec_tree}
