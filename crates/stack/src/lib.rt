@@ -3,3 +3,4 @@
 #![tactic(auto)]
 
 pub mod regions;
+pub mod untested;

@@ -1,0 +1,8 @@
+-- `none_leads` meets its contract: each entry leads elsewhere. Assumes nothing.
+use Rattle.std.proofs.Common.{arith, refl, rules}
+use Rattle.std.proofs.lemmas.Iterator.{YieldsList-from_range}
+use Rattle.stack.proofs.Scan.{tells_below}
+use Rattle.stack.proofs.untested.UntestedState.none_leads.Goals as goal
+
+pub returns : goal.returns
+returns c = tells_below (YieldsList-from_range 0 _ _ refl (omega arith)) c.all.ensures.ran (λ x b q k. search rules)
