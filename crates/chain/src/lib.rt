@@ -7,12 +7,11 @@ ghost use Rattle.rules.specs.File.{record_of, byte_of_d, instructions_of};
 ghost use Rattle.rules.specs.Decode.{start_of, instruction_at};
 ghost use Rattle.typing.specs.Walk.{skip};
 ghost use Rattle.stack.specs.Tells.{Tells};
-ghost use Rattle.stack.specs.Facts.{Known};
 ghost use Rattle.chain.specs.Chain.{Stands, Leads, Linked, call_at};
 
 use rules::Record;
-use rules::limits::{CALL, CALLEES};
-use stack::regions::{head, region};
+use rules::limits::CALL;
+use stack::untested::UntestedState;
 
 pub mod frames;
 
@@ -22,100 +21,75 @@ fn skip(f: &[u8], r: usize, n: usize) -> usize
     ensures { result ≡ skip f.now r n }
 {
     let mut p = r;
-    let mut i = 0;
-    while i < n {
+    for _i in 0..n {
         p = walk::code::after(f, p);
-        i += 1;
     }
     p
 }
 
 // The record of instruction i of function g.
-fn place(f: &[u8], starts: &[usize; CALLEES], functions: usize, g: usize, i: usize) -> usize
-    requires fact_1 { Known f.now starts.now functions }
-    requires fact_2 { (g < 256) × ((i < 65536) × (i < instructions_of (record_of f.now (start_of f.now g)))) }
-    ensures { result ≡ instruction_at f.now g i }
+fn place(state: &UntestedState, g: usize, i: usize) -> usize
+    requires { let f = state.now.file.now in (g < 256) × ((i < 65536) × (i < instructions_of (record_of f (start_of f g)))) }
+    ensures { result ≡ instruction_at state.now.file.now g i }
 {
-    let h = walk::tables::start_of(f, starts, g);
-    let at = walk::code::code_at(f, h);
-    skip(f, at, i)
+    let h = walk::tables::start_of(state.file, state.starts, g);
+    let at = walk::code::code_at(state.file, h);
+    skip(state.file, at, i)
 }
 
 // Frame k is of a function of the module, and stands at one of its instructions.
-pub fn stands(f: &[u8], starts: &[usize; CALLEES], functions: usize, s: &[u8], k: u32) -> bool
-    requires { Known f.now starts.now functions }
-    ensures { Tells result (Stands f.now s.now k) }
+pub fn stands(state: &UntestedState, k: u32) -> bool
+    ensures { Tells result (Stands state.now.file.now state.now.bytes.now k) }
 {
-    let g = words::wide(state::total::function(s, k));
-    let i = state::total::instruction(s, k);
-    let h = head(f, starts, functions, s, k);
+    let g = state::total::function(state.bytes, k);
+    let i = state::total::instruction(state.bytes, k);
+    let h = state.head(k);
     let n = walk::file::instructions_of(h);
-    ((g as usize) < functions) & ((i as usize) < n)
+    (usize::from(g) < state.functions) & ((i as usize) < n)
 }
 
 // The record of the instruction that frame k stands at.
-fn call_at(f: &[u8], starts: &[usize; CALLEES], functions: usize, s: &[u8], k: u32) -> Record
-    requires fact_1 { Known f.now starts.now functions }
-    requires fact_2 { Stands f.now s.now k }
-    ensures { result ≡ call_at f.now s.now k }
+fn call_at(state: &UntestedState, k: u32) -> Record
+    requires { Stands state.now.file.now state.now.bytes.now k }
+    ensures { result ≡ call_at state.now.file.now state.now.bytes.now k }
 {
-    let g = words::wide(state::total::function(s, k));
-    let i = state::total::instruction(s, k);
-    let p = place(f, starts, functions, g as usize, i as usize);
-    walk::file::record_at(f, p)
+    let g = usize::from(state::total::function(state.bytes, k));
+    let i = state::total::instruction(state.bytes, k);
+    let p = place(state, g, i as usize);
+    walk::file::record_at(state.file, p)
 }
 
 // Byte i of d; from 3 on the highest.
 fn byte_of(x: Record, i: u32) -> u32
     ensures { result ≡ byte_of_d x i }
 {
-    if i == 0 {
-        x.d % 256
-    } else if i == 1 {
-        x.d / 256 % 256
-    } else if i == 2 {
-        x.d / 65536 % 256
-    } else {
-        x.d / 16777216
+    match i {
+        0 => x.d % 256,
+        1 => x.d / 256 % 256,
+        2 => x.d / 65536 % 256,
+        _ => x.d / 16777216,
     }
 }
 
 // Entry i of the map of frame k + 1 is that of frame k at byte i of d.
-fn leads(s: &[u8], k: u32, x: Record, i: u32) -> bool
+fn leads(state: &UntestedState, k: u32, x: Record, i: u32) -> bool
     requires { k < 256 }
-    ensures { Tells result (Leads s.now k x i) }
+    ensures { Tells result (Leads state.now.bytes.now k x i) }
 {
     let variable = byte_of(x, i);
-    let given = region(s, k, variable);
-    let got = region(s, k + 1, i);
+    let given = state.region(k, variable);
+    let got = state.region(k + 1, i);
     got == given
 }
 
-// The first n entries.
-fn through(s: &[u8], k: u32, x: Record, n: u32) -> bool
-    requires { (k < 256) × (n < 256) }
-    ensures { Tells result ((i : ℕ) → i < n → Leads s.now k x i) }
-{
-    let mut i = 0;
-    while i < n {
-        if !leads(s, k, x, i) {
-            return false;
-        }
-        i += 1;
-    }
-    true
-}
-
 // Frame k stands at the call that made frame k + 1.
-pub fn linked(f: &[u8], starts: &[usize; CALLEES], functions: usize, s: &[u8], k: u32) -> bool
-    requires fact_1 { Known f.now starts.now functions }
-    requires fact_2 { (k < 256) × Stands f.now s.now k }
-    ensures { Tells result (Linked f.now s.now k) }
+pub fn linked(state: &UntestedState, k: u32) -> bool
+    requires { (k < 256) × Stands state.now.file.now state.now.bytes.now k }
+    ensures { Tells result (Linked state.now.file.now state.now.bytes.now k) }
 {
-    let x = call_at(f, starts, functions, s, k);
-    let g = state::total::function(s, k + 1);
-    let h = head(f, starts, functions, s, k + 1);
-    let n = words::wide(h.a);
-    let all = through(s, k, x, n);
-    (x.kind == CALL) & ((x.b == g) & all)
+    let x = call_at(state, k);
+    let g = state::total::function(state.bytes, k + 1);
+    let h = state.head(k + 1);
+    let through = (0..u32::from(h.a)).all(|i| leads(state, k, x, i));
+    (x.kind == CALL) & ((x.b == g) & through)
 }

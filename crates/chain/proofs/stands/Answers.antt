@@ -5,4 +5,4 @@ use Rattle.chain.specs.Chain.{stands_by}
 use Rattle.chain.proofs.stands.Goals as goal
 
 pub returns : goal.returns
-returns c = stands_by c.requires.count (c.wide-g.ensures.0 ∙ c.function.ensures) c.instruction-i.ensures (c.instructions_of-n.ensures.0 ∙ ap instructions_of c.head-h.ensures)
+returns c = stands_by c.args.state.now.known.count (c.from.ensures ∙ c.function-g.ensures) c.instruction-i.ensures (c.instructions_of-n.ensures.0 ∙ ap instructions_of c.head-h.ensures)

@@ -8,7 +8,7 @@ pub returns-then-not-stands : goal.returns-then-not-stands
 returns-then-not-stands c = tells_no (λ w. told_no c.stands.ensures (ap not c.if-not-stands.true) w.stands)
 
 pub link_ok-link-requires : goal.link_ok-link-requires
-link_ok-link-requires c = record { fact_1 = c.requires.fact_1; fact_2 = (c.requires.fact_2, told_yes c.stands.ensures (ap not c.if-not-stands.false)) }
+link_ok-link-requires c = (c.requires, told_yes c.stands.ensures (ap not c.if-not-stands.false))
 
 pub returns : goal.returns
 returns c = frame_by (told_yes c.stands.ensures (ap not c.if-not-stands.false)) (tells_and c.link_ok-link.ensures c.locals_ok-locals.ensures)
