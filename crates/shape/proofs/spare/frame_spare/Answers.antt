@@ -2,8 +2,8 @@
 use Rattle.shape.specs.Spare.{frame_used, frame_unused}
 use Rattle.shape.proofs.spare.frame_spare.Goals as goal
 
-pub returns-then-k-n : goal.returns-then-k-n
-returns-then-k-n c = frame_used c.if-k-n.true c.used_spare.ensures
+pub returns-then-k-state : goal.returns-then-k-state
+returns-then-k-state c = frame_used c.if-k-state.true c.used_spare.ensures
 
-pub returns-else-k-n : goal.returns-else-k-n
-returns-else-k-n c = frame_unused c.requires.fact_2 c.if-k-n.false c.frame_place-at.ensures c.zero.ensures
+pub returns-else-k-state : goal.returns-else-k-state
+returns-else-k-state c = frame_unused c.requires c.if-k-state.false c.frame_place-at.ensures c.zero.ensures

@@ -5,4 +5,4 @@ use Rattle.shape.specs.Spare.{used_by}
 use Rattle.shape.proofs.spare.used_spare.Goals as goal
 
 pub returns : goal.returns
-returns c = used_by c.requires.fact_2 c.head-h.ensures c.wide-c.ensures.0 (ap₂ ◌+◌ c.wide.ensures.0 c.wide-2.ensures.0) c.frame_place-at.ensures c.register_place.ensures c.map_place.ensures c.map_place-2.ensures c.function_place.ensures c.zero-registers.ensures c.zero-map.ensures c.zero-last.ensures
+returns c = used_by c.requires c.head-h.ensures c.from-c.ensures (ap₂ ◌+◌ c.from.ensures c.from-2.ensures) c.frame_place-at.ensures c.register_place.ensures c.map_place.ensures c.map_place-2.ensures c.function_place.ensures c.zero-registers.ensures c.zero-map.ensures c.zero-last.ensures
