@@ -1,6 +1,6 @@
 -- Where a live region's type stands: the highest frame that has it among its local regions, and there the last. For any bytes this is
 -- the type that rules' Heap gives it. Assumes nothing.
-use Rattle.std.specs.Prelude.{◌≡◌, Bool, true, false, ◌&&◌, map, ◌≢◌, eqb, ltb, leb}
+use Rattle.std.specs.Prelude.{◌≡◌, Option, None, Some, Bool, true, false, ◌&&◌, map, ◌≢◌, eqb, ltb, leb}
 use Rattle.std.proofs.Math.Path.{refl, sym, ap, ap₂}
 use Rattle.std.proofs.Common.{◌∙◌, inl, inr, mul-suc, mul_comm}
 use Rattle.std.proofs.Math.Bool.{cond, and-true}
@@ -28,6 +28,11 @@ use Rattle.positions.specs.Table.{exact_of}
 use Rattle.stack.specs.Facts.{function_at, head_at, params_at, locals_at}
 use Rattle.objects.specs.declared.Home.{Home}
 use Rattle.objects.specs.declared.Area.{Area}
+
+-- a number found, counted from 1; 0 where there is none
+abbrev pub numbered : Option ℕ → ℕ
+numbered None = 0
+numbered (Some j) = suc j
 
 -- 1 + the last of the c entries from lo on that leads to r; 0 where none does
 unfoldable pub last_of : (ℕ → ℕ) → ℕ → ℕ → ℕ → ℕ
@@ -188,35 +193,29 @@ module _ (f s : Bytes) where
           let d : n ≡ k = (let z : suc n ≡ suc k = rw q at e in omega arith) in
           (omega arith, rw (← d) (omega (arith, q)))
 
--- ---- what the code finds: frame is 1 + the frame, 0 where r is not live
+-- ---- what the code finds
 
-pub record HomeIs (f s : Bytes) (n r : ℕ) (h : Home) : Type 0 where
-  pub none : h.frame ≡ 0 → region_tree f s n r ≡ int 0
-  pub some : (k : ℕ) → h.frame ≡ suc k → (k < n) × (region_tree f s n r ≡ close (frame_map s k) (entry_type f h.entry))
+-- the type of region r, of n frames, stands at home h
+pub record StandsAt (f s : Bytes) (n r : ℕ) (h : Home) : Type 0 where
+  pub below : h.frame < n
+  pub tree : region_tree f s n r ≡ close (frame_map s h.frame) (entry_type f h.entry)
 
-pub home_none : {f s : Bytes} {n r k v : ℕ} → k ≡ frame_of f s n r → k ≡ 0 → HomeIs f s n r (record { frame = k; entry = v })
-home_none {f} {s} {n} {r} e z =
-    record { none = λ q. tree_none f s n r (sym e ∙ z); some = λ k q. absurd (let d : 0 ≡ suc k = sym z ∙ q in omega arith) }
+-- where r is not live, it has no home, and the type of no bytes
+abbrev pub HomeIs : Bytes → Bytes → ℕ → ℕ → Option Home → Type 0
+HomeIs f s n r None = region_tree f s n r ≡ int 0
+HomeIs f s n r (Some h) = StandsAt f s n r h
 
-pub home_some : {f s : Bytes} {n r k i a v : ℕ} {h : Record} → k ≡ frame_of f s n r → k ≢ 0 → i ≡ last_local f s (k - 1) r → h ≡ head_at f s (k - 1) → a ≡ h.a
-    → v ≡ entry_at f s (k - 1) (a + (i - 1)) → HomeIs f s n r (record { frame = k; entry = v })
-home_some {f} {s} {n} {r} {k} {i} {a} {v} {h} e z l eh ea et =
+pub home_none : (f s : Bytes) (n r : ℕ) → frame_of f s n r ≡ 0 → HomeIs f s n r None
+home_none f s n r e = tree_none f s n r e
+
+pub home_some : {f s : Bytes} {n r k i a v : ℕ} {h : Record} → frame_of f s n r ≡ suc k → suc i ≡ last_local f s k r → h ≡ head_at f s k → a ≡ h.a
+    → v ≡ entry_at f s k (a + i) → HomeIs f s n r (Some (record { frame = k; entry = v }))
+home_some {f} {s} {n} {r} {k} {i} {a} {v} {h} e l eh ea et =
+    let d : a ≡ (head_at f s k).a = ea ∙ ap (λ (x : Record). x.a) eh in
     record {
-      none = λ q. absurd (z q);
-      some = λ j q.
-          let d : k - 1 ≡ j = omega (arith, q) in
-          let has = frame_has f s n r j (sym e ∙ q) in
-          let m : last_local f s j r ≡ suc (i - 1) = (let w : i ≡ last_local f s j r = rw d at l in let p = has.1 in omega arith) in
-          let b : a ≡ (head_at f s j).a = ea ∙ ap (λ (x : Record). x.a) (rw d at eh) in
-          (has.0, tree_some f s n r j (i - 1) (sym e ∙ q) m ∙ rw (et, d, b));
+      below = (frame_has f s n r k e).0;
+      tree = tree_some f s n r k i e (sym l) ∙ ap (λ (x : ℕ). close (frame_map s k) (entry_type f x)) (sym (et ∙ ap (λ (x : ℕ). entry_at f s k (x + i)) d));
     }
-
--- there is an entry to take
-pub local_some : (f s : Bytes) (n r : ℕ) {k i : ℕ} → k ≡ frame_of f s n r → k ≢ 0 → i ≡ last_local f s (k - 1) r → 0 < i
-local_some f s n r {k} e z l =
-    let q : k ≡ suc (k - 1) = omega (arith, z) in
-    let h = (frame_has f s n r (k - 1) (sym e ∙ q)).1 in
-    omega (arith, l)
 
 -- ---- what its objects are
 
@@ -257,16 +256,15 @@ module _ {j k : RegionKind} (σ : Region j → Region k) (m : Module) where
   extent_sub T = ap₂ {C = Extent} (λ (z c : ℕ). record { size = z; count = c }) (size_sub σ m T) (number_sub T)
 
 -- of region r
-pub extent_none : {f s : Bytes} {n r : ℕ} {h : Home} → HomeIs f s n r h → h.frame ≡ 0
+pub extent_none : (f s : Bytes) (n r : ℕ) → HomeIs f s n r None
     → (record { size = 0; count = 1 } ≡ exact_of (flat (module_of f) (region_tree f s n r))) × Small (record { size = 0; count = 1 })
 unfolding flat flat_with
-extent_none {f} w e = (rw (w.none e) refl, (omega arith, omega arith))
+extent_none f s n r w = (rw w refl, (omega arith, omega arith))
 
-pub extent_some : {f s : Bytes} {n r : ℕ} {h : Home} {e : Extent} → HomeIs f s n r h → h.frame ≢ 0 → (e ≡ exact_of (flat (module_of f) (entry_type f h.entry))) × Small e
+pub extent_some : {f s : Bytes} {n r : ℕ} {h : Home} {e : Extent} → HomeIs f s n r (Some h) → (e ≡ exact_of (flat (module_of f) (entry_type f h.entry))) × Small e
     → (e ≡ exact_of (flat (module_of f) (region_tree f s n r))) × Small e
-extent_some {f} {s} {n} {r} {h} w d e =
-    let q : h.frame ≡ suc (h.frame - 1) = omega (arith, d) in
-    (e.0 ∙ sym (ap (λ (T : Tree live). exact_of (flat (module_of f) T)) (w.some (h.frame - 1) q).1 ∙ extent_sub _ (module_of f) (entry_type f h.entry)), e.1)
+extent_some {f} {s} {n} {r} {h} w e =
+    (e.0 ∙ sym (ap (λ (T : Tree live). exact_of (flat (module_of f) T)) w.tree ∙ extent_sub _ (module_of f) (entry_type f h.entry)), e.1)
 
 -- ---- the object around an address
 
@@ -277,6 +275,11 @@ part_at p x z = cond (ltb 0 z && leb (z * suc (x / z)) page_bytes) (record { off
 pub record IsPart (r : Area) (p : Part) : Type 0 where
   pub offset : r.offset ≡ p.offset
   pub size : r.size ≡ p.size
+
+-- the part that an object is, empty where there is none
+abbrev pub part_or_none : Option Area → Area
+part_or_none None = record { offset = 0; size = 0 }
+part_or_none (Some a) = a
 
 pub part_none : (p x z : ℕ) → z ≡ 0 → IsPart (record { offset = 0; size = 0 }) (part_at p x z)
 unfolding part_at

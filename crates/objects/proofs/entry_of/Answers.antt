@@ -6,7 +6,7 @@ use Rattle.objects.specs.Homes.{entry_is}
 use Rattle.objects.proofs.entry_of.Goals as goal
 
 pub overflow_add-at : goal.overflow_add-at
-overflow_add-at c = omega (arith, c.start_of-at.ensures, start_few c.args.f.now c.wide-g.result c.requires.short)
+overflow_add-at c = omega (arith, c.start_of-at.ensures, start_few c.args.state.now.file.now c.from-g.result c.args.state.now.known.short)
 
 pub returns : goal.returns
-returns c = entry_is _ _ _ _ (c.wide-g.ensures.0 ∙ c.function.ensures) c.start_of-at.ensures c.record_at-x.ensures c.entry_of.ensures.0
+returns c = entry_is _ _ _ _ (c.from-g.ensures ∙ c.function.ensures) c.start_of-at.ensures c.record_at-x.ensures c.entry_of.ensures.0

@@ -15,7 +15,7 @@ pub overflow_add-y : goal.overflow_add-y
 overflow_add-y c = omega (arith, div-add-mod' c.args.x c.args.size)
 
 pub returns-then-y-size : goal.returns-then-y-size
-returns-then-y-size c = part_some _ _ _ c.if-size-eq0.false refl c.if-y-size.true c.page_place-o.ensures
+returns-then-y-size c = part_past _ _ _ c.if-size-eq0.false refl c.if-y-size.true
 
 pub returns : goal.returns
-returns c = part_past _ _ _ c.if-size-eq0.false refl c.if-y-size.false
+returns c = part_some _ _ _ c.if-size-eq0.false refl c.if-y-size.false c.page_place-o.ensures
