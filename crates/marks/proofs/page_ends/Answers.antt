@@ -5,7 +5,7 @@ use Rattle.marks.specs.Ends.{ends_none, ends_some}
 use Rattle.marks.proofs.page_ends.Goals as goal
 
 pub returns-then-owner-eq0 : goal.returns-then-owner-eq0
-returns-then-owner-eq0 c = tells_yes (ends_none (c.wide-owner.ensures.0 ∙ c.owner.ensures) c.if-owner-eq0.true)
+returns-then-owner-eq0 c = tells_yes (ends_none (c.from-owner.ensures ∙ c.owner.ensures) c.if-owner-eq0.true)
 
 pub returns : goal.returns
-returns c = ends_some (c.wide-owner.ensures.0 ∙ c.owner.ensures) c.if-owner-eq0.false c.size_of-size.ensures.0 c.end_marks.ensures
+returns c = ends_some (c.from-owner.ensures ∙ c.owner.ensures) c.if-owner-eq0.false c.size_of-size.ensures.0 c.end_marks.ensures
