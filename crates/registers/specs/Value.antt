@@ -1,7 +1,7 @@
 -- What makes a number a value of a written type with regions put for its variables, by the form of its term. Assumes nothing.
 use Rattle.std.proofs.Math.Path.{◌≡◌, refl, ap}
 use Rattle.std.proofs.Common.{sym, ◌∙◌}
-use Rattle.std.specs.Prelude.{Bool, ◌≢◌, ◌⊎◌, ℕ, zero, suc, ◌-◌, ◌^◌, ◌/◌, ◌<◌, ◌≤◌, ltb, length}
+use Rattle.std.specs.Prelude.{Bool, None, ◌≢◌, ◌⊎◌, ℕ, zero, suc, ◌^◌, ◌/◌, ◌<◌, ◌≤◌, ltb, length}
 use Rattle.std.proofs.Math.Nat.{pow-le-pow_right}
 use native.Mathlib.Omega.{arith}
 use Rattle.words.specs.Bytes.{Bytes, AllBytes}
@@ -25,7 +25,7 @@ use Rattle.terms.specs.Compare.{under}
 use Rattle.runs.specs.Runs.{StandsIs, UntypedIs}
 use Rattle.positions.specs.Maps.{Narrow, narrow_entry, map_list, under_close}
 use Rattle.stack.specs.Tells.{Tells, tells_lt, does_tells}
-use Rattle.objects.specs.Homes.{region_tree, HomeIs}
+use Rattle.objects.specs.Homes.{region_tree, HomeIs, StandsAt}
 use Rattle.objects.specs.declared.Home.{Home}
 
 -- n frames of a state
@@ -73,42 +73,41 @@ value_none m W σ x bytes a b c h = h
 
 -- ---- where a run stands, from the code's answer
 
-module _ {f s : Bytes} {n r : ℕ} {h : Home} (home : HomeIs f s n r h) where
-  pub type_is : (typing_of f s n).type r ≡ region_tree f s n r
+module _ (f s : Bytes) (n r : ℕ) where
+  type_is : (typing_of f s n).type r ≡ region_tree f s n r
   unfolding view
   type_is = refl
 
-  pub stands_none : {T : Tree live} {a : ℕ} → h.frame ≡ 0 → ¬ Stands (module_of f) (typing_of f s n) T r a
+  pub stands_none : {T : Tree live} {a : ℕ} → HomeIs f s n r None → ¬ Stands (module_of f) (typing_of f s n) T r a
   unfolding flat flat_with
   stands_none e st =
-      let q : (typing_of f s n).type r ≡ int 0 = type_is ∙ home.none e in
+      let q : (typing_of f s n).type r ≡ int 0 = type_is ∙ e in
       let z : 0 < size {k = live} (module_of f) (int 0) = rw q at st.sized in
       omega arith
 
-  -- its type, closed by the map of its frame
-  pub type_some : {p : Bytes} → Narrow f → h.frame ≢ 0 → p ≡ map_list s (h.frame - 1) → (typing_of f s n).type r ≡ sub (under p) (entry_type f h.entry)
-  type_some {p} narrow d ep =
-      let j : ℕ = h.frame - 1 in
-      let hj : h.frame ≡ suc j = omega (arith, d) in
-      type_is ∙ (home.some j hj).1 ∙ sym (under_close s j (entry_type f h.entry) (narrow_entry f narrow h.entry)) ∙ ap (λ (l : Bytes). sub (under {k = live} l) (entry_type f h.entry)) (sym ep)
+  -- a region that is not live is typed
+  pub untyped_none : {m a : ℕ} → HomeIs f s n r None → ¬ InUntyped (typing_of f s n) m r a
+  untyped_none e u = let q : ◌≡◌ {A = ℕ} 1 0 = ap (λ (T : Tree live). form T) (sym (type_is ∙ e) ∙ u.untyped) in omega arith
 
-  pub stands_some : (k t : ℕ) {a o : ℕ} {p q : Bytes} {b : Bool} → Narrow f → h.frame ≢ 0 → p ≡ map_list s (h.frame - 1) → q ≡ map_list s k → o ≡ page_owner s (a / page_bytes)
+module _ {f s : Bytes} {n r : ℕ} {h : Home} (home : StandsAt f s n r h) where
+  -- its type, closed by the map of its frame
+  pub type_some : {p : Bytes} → Narrow f → p ≡ map_list s h.frame → (typing_of f s n).type r ≡ sub (under p) (entry_type f h.entry)
+  type_some {p} narrow ep =
+      type_is f s n r ∙ home.tree ∙ sym (under_close s h.frame (entry_type f h.entry) (narrow_entry f narrow h.entry)) ∙ ap (λ (l : Bytes). sub (under {k = live} l) (entry_type f h.entry)) (sym ep)
+
+  pub stands_some : (k t : ℕ) {a o : ℕ} {p q : Bytes} {b : Bool} → Narrow f → p ≡ map_list s h.frame → q ≡ map_list s k → o ≡ page_owner s (a / page_bytes)
       → StandsIs f r o h.entry p a t q b → Tells b (Stands (module_of f) (typing_of f s n) (close (frame_map s k) ((module_of f).term t)) r a)
   unfolding view
-  stands_some k t {a} {o} {p} {q} {b} narrow d ep eq eo is =
+  stands_some k t {a} {o} {p} {q} {b} narrow ep eq eo is =
       let tq : sub (under q) ((module_of f).term t) ≡ close (frame_map s k) ((module_of f).term t) =
       ap (λ (l : Bytes). sub (under {k = live} l) ((module_of f).term t)) eq ∙ under_close s k ((module_of f).term t) (narrow t) in
-      let e : b ≡ does (dec_stands (module_of f) (typing_of f s n) (sub (under q) ((module_of f).term t)) r a) = is (typing_of f s n) (sym eo) (type_some narrow d ep) in
+      let e : b ≡ does (dec_stands (module_of f) (typing_of f s n) (sub (under q) ((module_of f).term t)) r a) = is (typing_of f s n) (sym eo) (type_some narrow ep) in
       rw tq at (does_tells (dec_stands (module_of f) (typing_of f s n) (sub (under q) ((module_of f).term t)) r a) e)
 
-  -- a region that is not live is typed
-  pub untyped_none : {m a : ℕ} → h.frame ≡ 0 → ¬ InUntyped (typing_of f s n) m r a
-  untyped_none e u = let q : ◌≡◌ {A = ℕ} 1 0 = ap (λ (T : Tree live). form T) (sym (type_is ∙ home.none e) ∙ u.untyped) in omega arith
-
-  pub untyped_some : {m a o : ℕ} {b : Bool} → Narrow f → h.frame ≢ 0 → o ≡ page_owner s (a / page_bytes) → UntypedIs r o h.entry a m b → Tells b (InUntyped (typing_of f s n) m r a)
+  pub untyped_some : {m a o : ℕ} {b : Bool} → Narrow f → o ≡ page_owner s (a / page_bytes) → UntypedIs r o h.entry a m b → Tells b (InUntyped (typing_of f s n) m r a)
   unfolding view
-  untyped_some {m} {a} narrow d eo is =
-      does_tells (dec_in_untyped (typing_of f s n) m r a) (is (typing_of f s n) f (map_list s (h.frame - 1)) (sym eo) (type_some narrow d refl))
+  untyped_some {m} {a} narrow eo is =
+      does_tells (dec_in_untyped (typing_of f s n) m r a) (is (typing_of f s n) f (map_list s h.frame) (sym eo) (type_some narrow refl))
 
 -- ---- what the code reads
 

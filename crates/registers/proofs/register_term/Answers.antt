@@ -7,10 +7,10 @@ use Rattle.registers.specs.Registers.{term_is}
 use Rattle.registers.proofs.register_term.Goals as goal
 
 pub registers_at-at-requires : goal.registers_at-at-requires
-registers_at-at-requires c = omega (arith, c.start_of-h.ensures, start_few c.args.f.now c.wide-g.result c.requires.fact_1.short)
+registers_at-at-requires c = omega (arith, c.start_of-h.ensures, start_few c.args.state.now.file.now c.from-g.result c.args.state.now.known.short)
 
 pub overflow_add-at : goal.overflow_add-at
-overflow_add-at c = omega (arith, c.registers_at-at.ensures, registers_far c.args.f.now c.start_of-h.result, c.start_of-h.ensures, start_few c.args.f.now c.wide-g.result c.requires.fact_1.short)
+overflow_add-at c = omega (arith, c.registers_at-at.ensures, registers_far c.args.state.now.file.now c.start_of-h.result, c.start_of-h.ensures, start_few c.args.state.now.file.now c.from-g.result c.args.state.now.known.short)
 
 pub returns : goal.returns
-returns c = term_is _ _ _ _ (c.wide-g.ensures.0 ∙ c.function.ensures) c.start_of-h.ensures c.registers_at-at.ensures c.record_at-x.ensures c.entry_of.ensures.0
+returns c = term_is _ _ _ _ (c.from-g.ensures ∙ c.function.ensures) c.start_of-h.ensures c.registers_at-at.ensures c.record_at-x.ensures c.entry_of.ensures.0
