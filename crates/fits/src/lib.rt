@@ -3,6 +3,7 @@
 #![tactic(auto)]
 
 ghost use Rattle.std.specs.Prelude.{◌≡◌, cond, ◌&&◌, ◌<◌, eqb};
+ghost use Rattle.std.proofs.Props.{props};
 ghost use Rattle.rules.specs.File.{is_term, kind_name, kind_function};
 ghost use Rattle.rules.specs.Walk.{whole, names_end, is_end};
 ghost use Rattle.rules.specs.Records.{is_filler, integer_fits, pointer_fits, array_fits, struct_fits, term_fits, name_fits, head_ranges, function_fits, list_fits, region_bytes_fit, callee_fits, instruction_fits, arguments_fit, fits, end_fits};
@@ -128,60 +129,84 @@ fn list_fits(k: u8, w: Walk, x: Record) -> bool
 
 // ---- code
 
-fn region_bytes_fit(f: &[u8], starts: &[usize; CALLEES], end: Walk, w: Walk, x: Record) -> bool
-    requires fact_1 { starts.now ≡ starts_of f.now }
-    requires fact_2 { end ≡ (whole f.now).walk }
-    ensures { result ≡ region_bytes_fit f.now (whole f.now) w x }
-{
-    if usize::from(x.b) < end.functions {
-        let h = head_of(f, starts, usize::from(x.b));
-        four(x, usize::from(h.a), w.regions)
-    } else {
-        four_loose(x, w.regions)
+// What is known of the whole file: where its functions start, and the walk over all of its records.
+#[derive(Clone, Copy)]
+struct Known<'a> {
+    f: &'a [u8],
+    starts: &'a [usize; CALLEES],
+    end: Walk,
+    ghost starts_right: { starts.now ≡ starts_of f.now } by { Prim.hlevel props },
+    ghost end_right: { end ≡ (whole f.now).walk } by { Prim.hlevel props },
+}
+
+impl Known<'_> {
+    fn region_bytes_fit(&self, w: Walk, x: Record) -> bool
+        ensures { result ≡ region_bytes_fit self.now.f.now (whole self.now.f.now) w x }
+    {
+        if usize::from(x.b) < self.end.functions {
+            let h = head_of(self.f, self.starts, usize::from(x.b));
+            four(x, usize::from(h.a), w.regions)
+        } else {
+            four_loose(x, w.regions)
+        }
     }
-}
 
-fn callee_fits(f: &[u8], end: Walk, x: Record) -> bool
-    requires { end ≡ (whole f.now).walk }
-    ensures { result ≡ callee_fits (whole f.now) x }
-{
-    (usize::from(x.b) < end.functions) | !is_end(end.phase)
-}
+    fn callee_fits(&self, x: Record) -> bool
+        ensures { result ≡ callee_fits (whole self.now.f.now) x }
+    {
+        (usize::from(x.b) < self.end.functions) | !is_end(self.end.phase)
+    }
 
-fn instruction_fits(f: &[u8], starts: &[usize; CALLEES], end: Walk, w: Walk, x: Record) -> bool
-    requires fact_1 { starts.now ≡ starts_of f.now }
-    requires fact_2 { end ≡ (whole f.now).walk }
-    ensures { result ≡ instruction_fits f.now (whole f.now) w x }
-{
-    let [a, b, c, d] = classes(x.kind);
-    let callee = callee_fits(f, end, x);
-    let regions = region_bytes_fit(f, starts, end, w, x);
-    let a = operand_fits(
-        a,
-        usize::from(x.a),
-        w.registers,
-        w.instructions,
-        false,
-        false,
-    );
-    let b = operand_fits(
-        b,
-        usize::from(x.b),
-        w.registers,
-        w.instructions,
-        callee,
-        false,
-    );
-    let c = operand_fits(
-        c,
-        usize::from(x.c),
-        w.registers,
-        w.instructions,
-        false,
-        false,
-    );
-    let d = operand_fits(d, x.d as usize, w.registers, w.instructions, false, regions);
-    is_instruction(x.kind) & ((a & b) & (c & d))
+    fn instruction_fits(&self, w: Walk, x: Record) -> bool
+        ensures { result ≡ instruction_fits self.now.f.now (whole self.now.f.now) w x }
+    {
+        let [a, b, c, d] = classes(x.kind);
+        let callee = self.callee_fits(x);
+        let regions = self.region_bytes_fit(w, x);
+        let a = operand_fits(
+            a,
+            usize::from(x.a),
+            w.registers,
+            w.instructions,
+            false,
+            false,
+        );
+        let b = operand_fits(
+            b,
+            usize::from(x.b),
+            w.registers,
+            w.instructions,
+            callee,
+            false,
+        );
+        let c = operand_fits(
+            c,
+            usize::from(x.c),
+            w.registers,
+            w.instructions,
+            false,
+            false,
+        );
+        let d = operand_fits(d, x.d as usize, w.registers, w.instructions, false, regions);
+        is_instruction(x.kind) & ((a & b) & (c & d))
+    }
+
+    fn arguments_fit(&self, w: Walk, x: Record) -> bool
+        requires { w.callee < callees }
+        ensures { result ≡ arguments_fit self.now.f.now (whole self.now.f.now) w x }
+    {
+        let g = w.callee;
+        (x.kind == ARGUMENTS)
+            & if g < self.end.functions {
+                seven(
+                    x,
+                    parameters_of(head_of(self.f, self.starts, g)),
+                    w.registers,
+                )
+            } else {
+                seven_loose(x, w.registers)
+            }
+    }
 }
 
 // An instruction that the walk counts and no more, with so many to come, whose operands are below their limits.
@@ -189,21 +214,6 @@ pub fn plainly_fits(limits: &[usize; CLASS_COUNT], left: usize, x: Record) -> bo
     ensures { result ≡ counted_only x.kind left && below_limits limits.now x }
 {
     counted_only(x.kind, left) & below_limits(limits, x)
-}
-
-fn arguments_fit(f: &[u8], starts: &[usize; CALLEES], end: Walk, w: Walk, x: Record) -> bool
-    requires fact_1 { starts.now ≡ starts_of f.now }
-    requires fact_2 { end ≡ (whole f.now).walk }
-    requires fact_3 { w.callee < callees }
-    ensures { result ≡ arguments_fit f.now (whole f.now) w x }
-{
-    let g = w.callee;
-    (x.kind == ARGUMENTS)
-        & if g < end.functions {
-            seven(x, parameters_of(head_of(f, starts, g)), w.registers)
-        } else {
-            seven_loose(x, w.registers)
-        }
 }
 
 // ---- by the walk's phase
@@ -245,6 +255,7 @@ pub fn fits(f: &[u8], starts: &[usize; CALLEES], end: Walk, w: Walk, x: Record) 
     requires fact_3 { w.callee < callees }
     ensures { result ≡ fits f.now (whole f.now) w x }
 {
+    let known = Known { f, starts, end };
     match w.phase {
         Phase::Terms => first_fits(end, w, x),
         Phase::Names => name_or_function_fits(w, x),
@@ -252,8 +263,8 @@ pub fn fits(f: &[u8], starts: &[usize; CALLEES], end: Walk, w: Walk, x: Record) 
         Phase::Functions => function_or_filler_fits(w, x),
         Phase::Regions => list_fits(REGIONS, w, x),
         Phase::Registers => list_fits(REGISTERS, w, x),
-        Phase::Code => instruction_fits(f, starts, end, w, x),
-        Phase::Arguments => arguments_fit(f, starts, end, w, x),
+        Phase::Code => known.instruction_fits(w, x),
+        Phase::Arguments => known.arguments_fit(w, x),
         Phase::Filler => is_filler(x),
         Phase::Broken => true,
     }

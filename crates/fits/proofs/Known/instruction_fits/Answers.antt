@@ -1,7 +1,7 @@
--- `fits::instruction_fits` meets its contract: operand by operand. Assumes nothing.
+-- `fits::Known::instruction_fits` meets its contract: operand by operand. Assumes nothing.
 use Rattle.operands.specs.Classes.{numbered}
 use Rattle.rules.specs.Records.{instruction_fits}
-use Rattle.fits.proofs.instruction_fits.Goals as goal
+use Rattle.fits.proofs.Known.instruction_fits.Goals as goal
 
 pub returns : goal.returns
 unfolding instruction_fits
