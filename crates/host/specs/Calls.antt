@@ -1,6 +1,6 @@
 -- Calls of `go_at` in turn, and so of `go`, each with the state that the last one left: by its contract alone they are a list of calls of
 -- demand 3, so that its claim is about what the code does. Assumes nothing.
-use Rattle.std.specs.Prelude.{◌≡◌, List, [], ◌∷◌, ℕ, ◌+◌, ◌<◌}
+use Rattle.std.specs.Prelude.{◌≡◌, List, [], ◌∷◌, ℕ, ◌+◌, ◌<◌, Result, Ok, Err}
 use Rattle.std.proofs.Math.Path.{refl, ap}
 use Rattle.std.proofs.Common.{sym, ◌∙◌, subst, inl}
 use native.Mathlib.Omega.{arith}
@@ -15,22 +15,20 @@ use Rattle.rules.specs.declared.PageRange.{PageRange}
 use Rattle.soundness.specs.Demand3.{demand_at}
 use Rattle.host.specs.Going.{went_meant, WentBy}
 use Rattle.host.specs.declared.go.Went.{Went}
-use Rattle.host.specs.declared.go.Went.TheVariants as answers
+use Rattle.rules.specs.declared.refusal.Refusal.{Refusal}
 use Rattle.host.specs.declared.twice.Both.{Both}
 
 -- ---- a list of calls
 
 -- what a call of `go_at` gives back: its answer, and the output as it left it
 pub record Given : Type 0 where
-  pub answer : Went
+  pub answer : Result Went Refusal
   pub output : Bytes
 
 -- the steps that an answer reports, and those of all answers
-abbrev pub steps_said : Went → ℕ
-steps_said (answers.Refused n p) = 0
-steps_said (answers.Ended x n) = n
-steps_said (answers.Stopped i n) = n
-steps_said (answers.Running n) = n
+abbrev pub steps_said : Result Went Refusal → ℕ
+steps_said (Ok w) = w.steps
+steps_said (Err e) = 0
 
 unfoldable pub all_steps : List Given → ℕ
 all_steps [] = 0
@@ -42,11 +40,9 @@ steps_in (rules.refused n p) = 0
 steps_in (rules.went a n t u) = n
 steps_in rules.no_answer = 0
 
-said : (r : Went) (t u : Bytes) → steps_said r ≡ steps_in (went_meant r t u)
-said (answers.Refused n p) t u = refl
-said (answers.Ended x n) t u = refl
-said (answers.Stopped i n) t u = refl
-said (answers.Running n) t u = refl
+said : (r : Result Went Refusal) (t u : Bytes) → steps_said r ≡ steps_in (went_meant r t u)
+said (Ok w) t u = refl
+said (Err e) t u = refl
 
 -- ---- of the machine with page range R
 

@@ -1,60 +1,42 @@
 -- Going on's answer as rules' `Went`, and `go_at` case by case, as the code goes. The answers of the code have no counterpart of `no_answer`, so
 -- the contract says too that no step is stuck. Assumes nothing.
-use Rattle.std.specs.Prelude.{◌≡◌, refl, ◌≢◌, Bool, true, false, ◌&&◌, ℕ, ◌<◌, ◌≤◌, eqb, length}
+use Rattle.std.specs.Prelude.{◌≡◌, refl, ◌≢◌, Bool, true, false, ◌&&◌, ℕ, ◌<◌, ◌≤◌, eqb, length, Result, Ok, Err}
 use Rattle.std.proofs.Common.{sym, ap, ◌∙◌, subst, eqb-true, eq-eqb}
 use Rattle.words.specs.Bytes.{Bytes, AllBytes}
 use Rattle.words.specs.Choose.{both, both_of, cond_yes, cond_no, cond_le, cond_nle, cond_ne}
 use Rattle.words.specs.Decide.{does, does_true}
 use Rattle.rules.specs.Limits.{most_form, output_bytes, state_bytes, bad_input, bad_length, bad_state, not_running}
 use Rattle.rules.specs.Decode.{module_of}
-use Rattle.rules.specs.State.{View, view}
+use Rattle.rules.specs.State.{view}
 use Rattle.rules.specs.Run.{run_of}
 use Rattle.rules.specs.StateTest.{Passes, dec_passes}
 use Rattle.rules.specs.Verdict.{verdict_of, IsAccepted}
 use Rattle.rules.specs.Host as rules
 use Rattle.rules.specs.declared.PageRange.{PageRange}
-use Rattle.rules.specs.Refusals.{Verdict}
+use Rattle.rules.specs.declared.refusal.Refusal.{Refusal}
+use Rattle.rules.specs.Refusals.{Verdict, number_of, place_of}
 use Rattle.rules.specs.Refusals as verdicts
 use Rattle.soundness.specs.Demand3.{ranged_range}
 use Rattle.soundness.specs.ForCode.{go_went}
 use Rattle.turns.specs.Turns.{Came}
 use Rattle.run.specs.Outcomes.{outcome_meant}
 use Rattle.run.specs.declared.Outcome.{Outcome}
-use Rattle.run.specs.declared.Outcome.TheVariants as outcomes
 use Rattle.guarantees.specs.Verdicts.{on_refused, on_accepted}
 use Rattle.host.specs.declared.go.Went.{Went}
-use Rattle.host.specs.declared.go.Went.TheVariants as answers
 
 -- the answer, where the state and output left are t and u
-abbrev pub went_meant : Went → Bytes → Bytes → rules.Went
-went_meant (answers.Refused n p) t u = rules.refused n p
-went_meant (answers.Ended x n) t u = rules.went (rules.ended x) n t u
-went_meant (answers.Stopped i n) t u = rules.went (rules.stopped i) n t u
-went_meant (answers.Running n) t u = rules.went rules.running n t u
+abbrev pub went_meant : Result Went Refusal → Bytes → Bytes → rules.Went
+went_meant (Ok w) t u = rules.went (outcome_meant w.outcome) w.steps t u
+went_meant (Err e) t u = rules.refused (number_of e) (place_of e)
 
 -- the answer is w, and t and u are what it leaves of state s and output o
-pub record WentBy (r : Went) (s t o u : Bytes) (w : rules.Went) : Type 0 where
+pub record WentBy (r : Result Went Refusal) (s t o u : Bytes) (w : rules.Went) : Type 0 where
   pub answer : went_meant r t u ≡ w
   pub state : t ≡ rules.left_state w s
   pub output : u ≡ rules.left_output w o
 
-pub went_refused : {n p : ℕ} {s t o u : Bytes} {w : rules.Went} → t ≡ s → u ≡ o → rules.refused n p ≡ w → WentBy (answers.Refused n p) s t o u w
-went_refused {n} {p} {s} {t} {o} {u} e d q = subst (λ (w : rules.Went). WentBy (answers.Refused n p) s t o u w) q (record { answer = refl; state = e; output = d })
-
--- ---- an answer with so many steps, of a state with view v
-
-pub record Answers (r : Went) (v : View) (steps : ℕ) : Type 0 where
-  pub is : (t u : Bytes) → went_meant r t u ≡ rules.went (rules.outcome_of v) steps t u
-
-module _ (v : View) (steps : ℕ) {c : Outcome} (e : outcome_meant c ≡ rules.outcome_of v) where
-  pub answers_running : c ≡ outcomes.Running → Answers (answers.Running steps) v steps
-  answers_running d = record { is = λ t u. ap (λ (x : rules.Outcome). rules.went x steps t u) (sym (ap outcome_meant d) ∙ e) }
-
-  pub answers_ended : {x : ℕ} → c ≡ outcomes.Ended x → Answers (answers.Ended x steps) v steps
-  answers_ended d = record { is = λ t u. ap (λ (x : rules.Outcome). rules.went x steps t u) (sym (ap outcome_meant d) ∙ e) }
-
-  pub answers_stopped : {i : ℕ} → c ≡ outcomes.Stopped i → Answers (answers.Stopped i steps) v steps
-  answers_stopped d = record { is = λ t u. ap (λ (x : rules.Outcome). rules.went x steps t u) (sym (ap outcome_meant d) ∙ e) }
+pub went_refused : {e : Refusal} {s t o u : Bytes} {w : rules.Went} → t ≡ s → u ≡ o → rules.refused (number_of e) (place_of e) ≡ w → WentBy (Err e) s t o u w
+went_refused {e} {s} {t} {o} {u} h d q = subst (λ (w : rules.Went). WentBy (Err e) s t o u w) q (record { answer = refl; state = h; output = d })
 
 -- ---- case by case
 
@@ -94,11 +76,13 @@ module _ (R : PageRange) (f form s o : Bytes) (b : ℕ) where
         pub go_over : c ≡ true → {n : ℕ} → n ≡ (view s).status → n ≢ 0 → rules.refused not_running 0 ≡ rules.go_at R f form s o b
         go_over d q h = sym (go_accepted ∙ cond_le _ _ few ∙ cond_yes _ _ (both_of (eq-eqb (length s) state_bytes size) (eq-eqb (length o) output_bytes long)) ∙ cond_yes _ _ (sym e ∙ d) ∙ cond_ne _ _ (λ z. h (q ∙ z)))
 
-      -- the answer of a run
+      -- the answer of a run: the outcome of the state that it left
       pub go_ran : AllBytes form → AllBytes s → Passes (module_of f) s → (view s).range ≡ R → (view s).status ≡ 0 → length o ≡ output_bytes
-          → {r : Went} {n : ℕ} {t u : Bytes} → Came (module_of f) form s o b n t u → Answers r (view t) n → WentBy r s t o u (rules.go_at R f form s o b)
-      go_ran h l p y z k {r} {n} {t} {u} came a =
+          → {x : Outcome} {n : ℕ} {t u : Bytes} → Came (module_of f) form s o b n t u → outcome_meant x ≡ rules.outcome_of (view t)
+          → WentBy (Ok (record { outcome = x; steps = n })) s t o u (rules.go_at R f form s o b)
+      go_ran h l p y z k {x} {n} {t} {u} came a =
           let q : rules.go_at R f form s o b ≡ rules.went (rules.outcome_of (view t)) n t u
           = go_went R f form s o b acc h few l p y z k
           ∙ (λ i. rules.went (rules.outcome_of (view (sym came.state i))) (sym came.counted i) (sym came.state i) (sym came.output i)) in
-          subst (λ (w : rules.Went). WentBy r s t o u w) (sym q) (record { answer = a.is t u; state = refl; output = refl })
+          subst (λ (w : rules.Went). WentBy (Ok (record { outcome = x; steps = n })) s t o u w) (sym q)
+          (record { answer = ap (λ (y : rules.Outcome). rules.went y n t u) a; state = refl; output = refl })

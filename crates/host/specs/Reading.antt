@@ -1,6 +1,6 @@
 -- The reader's answer as rules' `Part`, `object_at` case by case, as the code goes, and where that part lies in the lent state.
 -- Assumes nothing.
-use Rattle.std.specs.Prelude.{◌≡◌, refl, Bool, true, false, cond, ◌&&◌, ℕ, zero, suc, ◌+◌, ◌-◌, ◌*◌, ◌/◌, ◌%◌, ◌<◌, ◌≤◌, ltb, leb, length, take, drop}
+use Rattle.std.specs.Prelude.{◌≡◌, refl, Bool, true, false, cond, ◌&&◌, ℕ, zero, suc, ◌+◌, ◌-◌, ◌*◌, ◌/◌, ◌%◌, ◌<◌, ◌≤◌, ltb, leb, length, take, drop, Option, Some, None}
 use Rattle.std.proofs.Math.Path.{sym}
 use Rattle.std.proofs.Common.{ap, ◌∙◌, subst, arith, length-take, length-drop, ltb-true}
 use Rattle.std.specs.Borrow.{Bor}
@@ -26,25 +26,10 @@ use Rattle.objects.specs.declared.Area.{Area}
 use Rattle.guarantees.specs.Verdicts.{on_refused, on_accepted}
 use Rattle.host.specs.declared.object.Part.{Part}
 
-abbrev pub part_meant : Part → rules.Part
-part_meant p = record { offset = p.offset; size = p.size }
-
-module _ (R : PageRange) (f s : Bytes) (a : ℕ) where
-  pub object_refused : {v : Verdict} {n p : ℕ} → v ≡ verdict_of f → v ≡ verdicts.Refused n p → rules.empty_part ≡ rules.object_at R f s a
-  unfolding rules.object_at
-  object_refused e d = on_refused (λ n p. rules.empty_part) f _ e d
-
-  module _ (acc : IsAccepted (verdict_of f)) {b : Bool} (e : b ≡ does (dec_passes (module_of f) s) && rules.ranged R s) where
-    pub object_failed : b ≡ false → rules.empty_part ≡ rules.object_at R f s a
-    unfolding rules.object_at
-    object_failed d = sym (on_accepted (λ n p. rules.empty_part) f _ acc ∙ cond_no _ _ (sym e ∙ d))
-
-    object_passed : b ≡ true → rules.object_at R f s a ≡ object_around f s a
-    unfolding rules.object_at object_around
-    object_passed d = on_accepted (λ n p. rules.empty_part) f _ acc ∙ cond_yes _ _ (sym e ∙ d)
-
-    pub object_read : b ≡ true → {r : Area} → IsPart r (object_around f s a) → part_meant (record { offset = r.offset; size = r.size }) ≡ rules.object_at R f s a
-    object_read d h = (λ i. record { offset = h.offset i; size = h.size i }) ∙ sym (object_passed d)
+-- an empty part is none
+abbrev pub part_meant : Option Part → rules.Part
+part_meant None = rules.empty_part
+part_meant (Some p) = record { offset = p.offset; size = p.size }
 
 -- ---- which parts there are
 
@@ -70,6 +55,10 @@ finds_in m v s a (suc r) l = go (flat m (type_of m v.fn v.map v.frames r))
         → Finds s a (cond ((ltb 0 L.size && ltb 0 (count L)) && leb (L.size * suc (a % page_bytes / L.size)) page_bytes) (part_around L.size a) rules.empty_part)
     go L = found L.size (ltb 0 (count L)) ((ltb 0 L.size && ltb 0 (count L)) && leb (L.size * suc (a % page_bytes / L.size)) page_bytes) refl
 
+object_around_finds : (f s : Bytes) (a : ℕ) → length s ≡ state_bytes → Finds s a (object_around f s a)
+unfolding object_around
+object_around_finds f s a l = finds_in (module_of f) (view s) s a ((view s).owner (a / page_bytes)) l
+
 object_finds : (f s : Bytes) (a : ℕ) → Finds s a (rules.object_of f s a)
 unfolding rules.object_at
 object_finds f s a = go (verdict_of f) (does (dec_passes (module_of f) s) && rules.ranged all_pages s) refl
@@ -80,9 +69,9 @@ object_finds f s a = go (verdict_of f) (does (dec_passes (module_of f) s) && rul
     go (verdicts.Accepted t n g i) false e = nothing
     go (verdicts.Refused n p) b e = nothing
 
-finds_empty : {s : Bytes} {a : ℕ} {p : rules.Part} → Finds s a p → p.size ≡ 0 → p.offset ≡ 0
-finds_empty nothing z = refl
-finds_empty (object h l) z = absurd (omega arith)
+finds_none : {s : Bytes} {a : ℕ} {p : rules.Part} → Finds s a p → p.size ≡ 0 → rules.empty_part ≡ p
+finds_none nothing z = refl
+finds_none (object h l) z = absurd (omega arith)
 
 finds_fits : {s : Bytes} {a : ℕ} {p : rules.Part} → Finds s a p → (0 < p.size → p.offset + p.size ≤ state_bytes) → (p.offset + p.size ≤ length s) × (p.offset + p.size ≤ state_bytes)
 finds_fits nothing i = (omega arith, omega arith)
@@ -93,6 +82,31 @@ finds_numbers : {s : Bytes} {a : ℕ} {p : rules.Part} → Finds s a p → rules
 unfolding rules.part_numbers
 finds_numbers nothing = refl
 finds_numbers (object h l) = refl
+
+-- ---- case by case
+
+module _ (R : PageRange) (f s : Bytes) (a : ℕ) where
+  pub object_refused : {v : Verdict} {n p : ℕ} → v ≡ verdict_of f → v ≡ verdicts.Refused n p → rules.empty_part ≡ rules.object_at R f s a
+  unfolding rules.object_at
+  object_refused e d = on_refused (λ n p. rules.empty_part) f _ e d
+
+  module _ (acc : IsAccepted (verdict_of f)) {b : Bool} (e : b ≡ does (dec_passes (module_of f) s) && rules.ranged R s) where
+    pub object_failed : b ≡ false → rules.empty_part ≡ rules.object_at R f s a
+    unfolding rules.object_at
+    object_failed d = sym (on_accepted (λ n p. rules.empty_part) f _ acc ∙ cond_no _ _ (sym e ∙ d))
+
+    object_passed : b ≡ true → rules.object_at R f s a ≡ object_around f s a
+    unfolding rules.object_at object_around
+    object_passed d = on_accepted (λ n p. rules.empty_part) f _ acc ∙ cond_yes _ _ (sym e ∙ d)
+
+    pub object_read : b ≡ true → {r : Area} → IsPart r (object_around f s a) → part_meant (Some (record { offset = r.offset; size = r.size })) ≡ rules.object_at R f s a
+    object_read d h = (λ i. record { offset = h.offset i; size = h.size i }) ∙ sym (object_passed d)
+
+    -- a part of size 0 is the empty one
+    pub object_no : b ≡ true → {r : Area} → IsPart r (object_around f s a) → r.size ≡ 0 → rules.empty_part ≡ rules.object_at R f s a
+    object_no d {r} h z =
+        let l = does_true (dec_passes (module_of f) s) (both (does (dec_passes (module_of f) s)) (rules.ranged R s) (sym e ∙ d)).0 in
+        finds_none (object_around_finds f s a l.size) (sym h.size ∙ z) ∙ sym (object_passed d)
 
 -- ---- the part itself
 
@@ -120,18 +134,16 @@ object_numbers f {r} {s} a h =
 
 -- ---- as the code goes
 
-pub part_fits : (f s : Bytes) (a : ℕ) {p : Part} → part_meant p ≡ rules.object_of f s a → (p.offset + p.size ≤ length s) × (p.offset + p.size ≤ state_bytes)
+pub part_fits : (f s : Bytes) (a : ℕ) {p : Part} → part_meant (Some p) ≡ rules.object_of f s a → (p.offset + p.size ≤ length s) × (p.offset + p.size ≤ state_bytes)
 part_fits f s a e = subst (λ (x : rules.Part). (x.offset + x.size ≤ length s) × (x.offset + x.size ≤ state_bytes)) (sym e) (object_fits f s a)
 
--- an empty part starts where the state does
-pub part_starts : (f s : Bytes) (a : ℕ) {p : Part} → part_meant p ≡ rules.object_of f s a → p.size ≡ 0 → p.offset ≡ 0
-part_starts f s a e = subst (λ (x : rules.Part). x.size ≡ 0 → x.offset ≡ 0) (sym e) (finds_empty (object_finds f s a))
-
--- the part from byte i up to byte j of the state, where these are the answer's
-pub part_lies : (f : Bytes) {r s : Bor Bytes} (a : ℕ) {p : Part} (i j : ℕ) → part_meant p ≡ rules.object_of f s.now a
-    → r.ref_ptr ≡ (s.ref_ptr.0, i + s.ref_ptr.1) → r.now ≡ take (j - i) (drop i s.now) → i ≡ p.offset → j ≡ p.offset + p.size → IsPartOf r s (rules.object_of f s.now a)
-part_lies f {r} {s} a {p} i j e q h start end =
-    let o : i + s.ref_ptr.1 ≡ s.ref_ptr.1 + p.offset = omega arith in
+-- the bytes from i up to j of the state are a part that starts at i and has so many
+pub part_lies : (f : Bytes) {r s : Bor Bytes} (a : ℕ) (o : Option Part) (i j : ℕ) → part_meant o ≡ rules.object_of f s.now a
+    → r.ref_ptr ≡ (s.ref_ptr.0, i + s.ref_ptr.1) → r.now ≡ take (j - i) (drop i s.now) → i ≡ (part_meant o).offset → j ≡ (part_meant o).offset + (part_meant o).size
+    → IsPartOf r s (rules.object_of f s.now a)
+part_lies f {r} {s} a o i j e q h start end =
+    let p = part_meant o in
+    let l : i + s.ref_ptr.1 ≡ s.ref_ptr.1 + p.offset = omega arith in
     let n : j - i ≡ p.size = omega arith in
     subst (λ (x : rules.Part). IsPartOf r s x) e
-    (record { place = q ∙ ap (λ (x : ℕ). (s.ref_ptr.0, x)) o; bytes = h ∙ (λ k. take (n k) (drop (start k) s.now)) })
+    (record { place = q ∙ ap (λ (x : ℕ). (s.ref_ptr.0, x)) l; bytes = h ∙ (λ k. take (n k) (drop (start k) s.now)) })

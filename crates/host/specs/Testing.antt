@@ -1,5 +1,5 @@
 -- The state test's answer as rules' `Tested`, and `test_at` case by case, as the code goes. Assumes nothing.
-use Rattle.std.specs.Prelude.{◌≡◌, refl, ◌≢◌, Bool, true, false, ◌&&◌, ℕ, eqb, length}
+use Rattle.std.specs.Prelude.{◌≡◌, refl, ◌≢◌, Bool, true, false, ◌&&◌, ℕ, eqb, length, Result, Ok, Err}
 use Rattle.std.proofs.Common.{sym, ◌∙◌}
 use Rattle.words.specs.Bytes.{Bytes}
 use Rattle.words.specs.Choose.{cond_yes, cond_no, cond_eq, cond_ne}
@@ -10,15 +10,14 @@ use Rattle.rules.specs.StateTest.{dec_passes}
 use Rattle.rules.specs.Verdict.{verdict_of, IsAccepted}
 use Rattle.rules.specs.Host as rules
 use Rattle.rules.specs.declared.PageRange.{PageRange}
-use Rattle.rules.specs.Refusals.{Verdict}
+use Rattle.rules.specs.declared.refusal.Refusal.{Refusal}
+use Rattle.rules.specs.Refusals.{Verdict, number_of, place_of}
 use Rattle.rules.specs.Refusals as verdicts
 use Rattle.guarantees.specs.Verdicts.{on_refused, on_accepted}
-use Rattle.host.specs.declared.test.Tested.{Tested}
-use Rattle.host.specs.declared.test.Tested.TheVariants as answers
 
-abbrev pub tested_meant : Tested → rules.Tested
-tested_meant (answers.Refused n p) = rules.failed n p
-tested_meant answers.Passed = rules.passed
+abbrev pub tested_meant : Result (Unit {0}) Refusal → rules.Tested
+tested_meant (Ok x) = rules.passed
+tested_meant (Err e) = rules.failed (number_of e) (place_of e)
 
 -- where the range is the machine's, the state test decides
 pub and_same : (a b : Bool) → b ≡ true → a && b ≡ a

@@ -4,12 +4,13 @@ ghost use Rattle.rules.specs.Host.{go_of};
 ghost use Rattle.host.specs.Calls.{WentTwice};
 
 use crate::go::{Went, go};
+use rules::Refusal;
 
 // The answers of both calls.
 #[derive(Clone, Copy)]
 pub struct Both {
-    pub first: Went,
-    pub second: Went,
+    pub first: Result<Went, Refusal>,
+    pub second: Result<Went, Refusal>,
 }
 
 // A module goes on with a form, and from where that leaves it with a later one. The first call writes o in at most budget steps, the

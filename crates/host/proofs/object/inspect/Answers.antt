@@ -1,17 +1,18 @@
 -- `host::object::inspect` meets its contract: the part that the reader gives, which lies in the state.
-use mathlib.Core.Path.{refl, sym}
+use mathlib.Core.Path.{refl}
 use native.Mathlib.Omega.{arith}
-use Rattle.host.specs.Reading.{part_fits, part_lies, part_starts}
+use Rattle.std.specs.Prelude.{Some, None}
+use Rattle.host.specs.Reading.{part_fits, part_lies}
 use Rattle.host.proofs.object.inspect.Goals as goal
 
-pub returns-then-n-eq0 : goal.returns-then-n-eq0
-returns-then-n-eq0 c = part_lies _ _ 0 0 c.object-p.ensures refl refl (sym (part_starts _ _ _ c.object-p.ensures c.if-n-eq0.true)) (omega (arith, part_starts _ _ _ c.object-p.ensures c.if-n-eq0.true))
+pub overflow_add-result : goal.overflow_add-result
+overflow_add-result c = omega (arith, part_fits _ _ _ c.in-Some.ensures)
 
-pub overflow_add-end : goal.overflow_add-end
-overflow_add-end c = omega (arith, part_fits _ _ _ c.object-p.ensures)
+pub slice_bounds-result-end : goal.slice_bounds-result-end
+slice_bounds-result-end c = omega (arith, part_fits _ _ _ c.in-Some.ensures)
 
-pub slice_bounds-result-end-2 : goal.slice_bounds-result-end-2
-slice_bounds-result-end-2 c = omega (arith, part_fits _ _ _ c.object-p.ensures)
+pub returns-in-Some : goal.returns-in-Some
+returns-in-Some c = part_lies _ _ (Some c.in-Some.part) _ _ c.in-Some.ensures refl refl refl refl
 
-pub returns : goal.returns
-returns c = part_lies _ _ _ _ c.object-p.ensures refl refl refl refl
+pub returns-in-None : goal.returns-in-None
+returns-in-None c = part_lies _ _ None 0 0 c.in-None.ensures refl refl refl refl

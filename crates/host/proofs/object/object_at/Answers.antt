@@ -1,10 +1,11 @@
 -- `host::object::object_at` meets its contract: the verdict first.
+use mathlib.Core.Path.{refl}
 use Rattle.guarantees.specs.Accepted.{says_accepted}
 use Rattle.host.specs.Reading.{object_refused}
 use Rattle.host.proofs.object.object_at.Goals as goal
 
 pub object_accepted-requires : goal.object_accepted-requires
-object_accepted-requires c = says_accepted _ c.verdict-v.ensures c.in-Accepted.is
+object_accepted-requires c = says_accepted _ c.in-Ok.ensures refl
 
-pub returns-in-Refused : goal.returns-in-Refused
-returns-in-Refused c = object_refused _ _ _ _ c.verdict-v.ensures c.in-Refused.is
+pub returns-in-Err : goal.returns-in-Err
+returns-in-Err c = object_refused _ _ _ _ c.in-Err.ensures refl

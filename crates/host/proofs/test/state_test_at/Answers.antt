@@ -1,10 +1,14 @@
 -- `host::test::state_test_at` meets its contract: the verdict first.
+use mathlib.Core.Path.{refl}
+use Rattle.std.proofs.lemmas.Result.{err_from_is_err_and}
 use Rattle.guarantees.specs.Accepted.{says_accepted}
 use Rattle.host.specs.Testing.{test_refused}
 use Rattle.host.proofs.test.state_test_at.Goals as goal
 
 pub test_accepted-requires : goal.test_accepted-requires
-test_accepted-requires c = says_accepted _ c.verdict-v.ensures c.in-Accepted.is
+test_accepted-requires c = says_accepted _ c.in_ok-verdict.ensures refl
 
-pub returns-in-Refused : goal.returns-in-Refused
-returns-in-Refused c = test_refused _ _ _ c.verdict-v.ensures c.in-Refused.is
+pub returns-in_err-verdict : goal.returns-in_err-verdict
+returns-in_err-verdict c =
+    let p = err_from_is_err_and c.from_residual.result c.from_residual.ensures.1 in
+    rw (p.1, p.2) (test_refused _ _ _ c.in_err-verdict.ensures refl)
