@@ -1,9 +1,8 @@
 -- Writing a line piece by piece: digits, texts one behind the other, and how long they are. Assumes nothing.
-use Rattle.std.specs.Prelude.{◌≡◌, refl, Bool, true, false, cond, [], ◌∷◌, ◌++◌, ℕ, zero, suc, ◌+◌, ◌*◌, ◌/◌, ◌%◌, ◌<◌, ◌≤◌, ltb, length, get_or, set, take}
-use Rattle.std.proofs.Common.{sym, ap, ◌∙◌, append_assoc, not-suc-le-zero, add-one, arith, length-append, take-suc, ltb-false, lt-ltb, le-ltb}
-use Rattle.std.proofs.Math.Seq.{take-length}
+use Rattle.std.specs.Prelude.{◌≡◌, refl, Bool, true, false, cond, [], ◌∷◌, ◌++◌, ℕ, zero, suc, ◌+◌, ◌*◌, ◌/◌, ◌%◌, ◌<◌, ◌≤◌, ltb, length, set, take, drop}
+use Rattle.std.proofs.Common.{sym, ap, ◌∙◌, append_assoc, not-suc-le-zero, arith, length-append, ltb-false, lt-ltb, le-ltb}
 use Rattle.words.specs.Bytes.{Bytes, splice}
-use Rattle.words.specs.ByteLaws.{length_splice, splice_none, splice_one, splice_append_at}
+use Rattle.words.specs.ByteLaws.{length_splice, splice_one, splice_append_at}
 use Rattle.lines.specs.Lines.{digit, space, line_end, digits_with, decimal, line_of}
 
 -- ---- digits
@@ -109,19 +108,24 @@ digits_one s i n v h e = rw (decimal_one n h, e) (puts_one s i (digit n))
 pub digits_more : {s t : Bytes} {i j : ℕ} (n v : ℕ) → 10 ≤ n → Puts s t i j (decimal (n / 10)) → v ≡ digit (n % 10) → Puts s (set t j v) i (j + 1) (decimal n)
 digits_more n v h p e = rw (decimal_more n h, e) (puts_byte p (digit (n % 10)))
 
--- ---- the bytes of a text, one by one
+-- ---- a text in the place of as many bytes
 
-pub text_none : (s text : Bytes) (i : ℕ) → Puts s s i (i + 0) (take 0 text)
-text_none s text i = record { end = refl; is = sym (splice_none s i) }
+text_first : (s text : Bytes) → length text ≤ length s → text ++ drop (length text) s ≡ splice s 0 text
+unfolding splice
+text_first [] [] h = refl
+text_first (x ∷ s) [] h = refl
+text_first [] (y ∷ text) h = absurd (omega arith)
+text_first (x ∷ s) (y ∷ text) h = ap (λ (l : Bytes). y ∷ l) (text_first s text (omega arith))
 
-pub text_more : {s t : Bytes} {i k : ℕ} (text : Bytes) → k < length text → Puts s t i (i + k) (take k text) → Puts s (set t (i + k) (get_or text k 0)) i (i + (k + 1)) (take (k + 1) text)
-text_more {s} {t} {i} {k} text h p =
-    let q = puts_byte p (get_or text k 0) in
-    let e : take (k + 1) text ≡ take k text ++ get_or text k 0 ∷ [] = ap (λ (n : ℕ). take n text) (add-one k) ∙ take-suc text k 0 h in
-    record { end = (let z : i + (k + 1) ≡ i + k + 1 = omega arith in z) ∙ q.end ∙ ap (λ (l : Bytes). i + length l) (sym e); is = q.is ∙ ap (splice s i) (sym e) }
+text_in : (i : ℕ) (s text : Bytes) → i + length text ≤ length s → take i s ++ (text ++ drop (length text) (drop i s)) ≡ splice s i text
+unfolding splice
+text_in zero s text h = text_first s text (omega arith)
+text_in (suc i) [] text h = absurd (omega arith)
+text_in (suc i) (x ∷ s) text h = ap (λ (l : Bytes). x ∷ l) (text_in i s text (omega arith))
 
-pub text_all : {s t : Bytes} {i j k : ℕ} (text : Bytes) → k ≡ length text → j ≡ i + k → Puts s t i (i + k) (take k text) → Puts s t i j text
-text_all {s} {t} {i} {j} {k} text e d p = record { end = d ∙ ap (λ (n : ℕ). i + n) e; is = p.is ∙ ap (splice s i) (ap (λ (n : ℕ). take n text) e ∙ take-length text) }
+pub text_put : (s text : Bytes) {put : Bytes} (i k : ℕ) → k ≡ length text → put ≡ text → i + length text ≤ length s
+    → Puts s (take i s ++ (put ++ drop k (drop i s))) i (i + length text) text
+text_put s text i k e d h = record { end = refl; is = rw (e, d) (text_in i s text h) }
 
 -- ---- a number behind a space, and whole lines
 

@@ -3,10 +3,11 @@
 #![tactic(auto)]
 
 ghost use Rattle.std.specs.Prelude.{◌≡◌, [], ◌∷◌, ◌+◌, ◌*◌, ◌<◌, ◌≤◌, length};
-ghost use Rattle.lines.specs.Lines.{digit as digitOf, space, decimal, line_of, verdict_line, refused_line, accepted_word, ended_word, stopped_word, running_word};
+ghost use Rattle.rules.specs.Refusals.{number_of, place_of, verdict_meant};
+ghost use Rattle.lines.specs.Lines.{digit as digitOf, space, decimal, line_of, verdict_line, refused_line, accepted_word, running_word};
 ghost use Rattle.lines.specs.Writing.{Puts, pair_of, most_digits, most_line};
 
-use rules::Verdict;
+use rules::{Counts, Refusal};
 
 // A digit as ASCII.
 fn digit(d: u64) -> u8
@@ -45,13 +46,9 @@ fn put_text(out: &mut [u8], at: usize, text: &[u8]) -> usize
     requires { at + length text.now ≤ length out.old }
     ensures { Puts out.old out.new at result text.now }
 {
-    let n = text.len();
-    let mut i = 0;
-    while i < n {
-        out[at + i] = text[i];
-        i += 1;
-    }
-    at + n
+    let end = at + text.len();
+    out[at..end].copy_from_slice(text);
+    end
 }
 
 // Two numbers, each behind a space.
@@ -64,7 +61,7 @@ fn put_pair(out: &mut [u8], at: usize, x: u64, y: u64) -> usize
 }
 
 // A word of at most eight bytes and two numbers.
-fn put_two(out: &mut [u8], at: usize, word: &[u8], x: u64, y: u64) -> usize
+pub fn pair_line(out: &mut [u8], at: usize, word: &[u8], x: u64, y: u64) -> usize
     requires { (length word.now ≤ 8) × (at + most_line ≤ length out.old) }
     ensures { Puts out.old out.new at result (line_of word.now (x ∷ y ∷ [])) × (result ≤ at + most_line) }
 {
@@ -75,27 +72,13 @@ fn put_two(out: &mut [u8], at: usize, word: &[u8], x: u64, y: u64) -> usize
 }
 
 // `refused`, number, place.
-pub fn refused_line(out: &mut [u8], at: usize, number: u64, place: u64) -> usize
+pub fn refused_line(out: &mut [u8], at: usize, e: Refusal) -> usize
     requires { at + most_line ≤ length out.old }
-    ensures { Puts out.old out.new at result (refused_line number place) × (result ≤ at + most_line) }
+    ensures { Puts out.old out.new at result (refused_line (number_of e) (place_of e)) × (result ≤ at + most_line) }
 {
-    put_two(out, at, b"refused", number, place)
-}
-
-// `ended`, value, steps.
-pub fn ended_line(out: &mut [u8], at: usize, value: u64, steps: u64) -> usize
-    requires { at + most_line ≤ length out.old }
-    ensures { Puts out.old out.new at result (line_of ended_word (value ∷ steps ∷ [])) × (result ≤ at + most_line) }
-{
-    put_two(out, at, b"ended", value, steps)
-}
-
-// `stopped`, number, steps.
-pub fn stopped_line(out: &mut [u8], at: usize, number: u64, steps: u64) -> usize
-    requires { at + most_line ≤ length out.old }
-    ensures { Puts out.old out.new at result (line_of stopped_word (number ∷ steps ∷ [])) × (result ≤ at + most_line) }
-{
-    put_two(out, at, b"stopped", number, steps)
+    let number = u64::from(e.number());
+    let place = e.place() as u64;
+    pair_line(out, at, b"refused", number, place)
 }
 
 // `running`, steps.
@@ -110,43 +93,24 @@ pub fn running_line(out: &mut [u8], at: usize, steps: u64) -> usize
 }
 
 // `accepted`, terms, names, functions, instructions.
-fn accepted_line(
-    out: &mut [u8],
-    at: usize,
-    terms: u64,
-    names: u64,
-    functions: u64,
-    instructions: u64,
-) -> usize
+fn accepted_line(out: &mut [u8], at: usize, counts: Counts) -> usize
     requires { at + most_line ≤ length out.old }
-    ensures { Puts out.old out.new at result (line_of accepted_word (terms ∷ names ∷ functions ∷ instructions ∷ [])) × (result ≤ at + most_line) }
+    ensures { Puts out.old out.new at result (line_of accepted_word (counts.terms ∷ counts.names ∷ counts.functions ∷ counts.instructions ∷ [])) × (result ≤ at + most_line) }
 {
     let h = put_text(out, at, b"accepted");
-    let i = put_pair(out, h, terms, names);
-    let j = put_pair(out, i, functions, instructions);
+    let i = put_pair(out, h, counts.terms as u64, counts.names as u64);
+    let j = put_pair(out, i, counts.functions as u64, counts.instructions as u64);
     out[j] = b'\n';
     j + 1
 }
 
 // The verdict's line.
-pub fn verdict_line(out: &mut [u8], at: usize, v: Verdict) -> usize
+pub fn verdict_line(out: &mut [u8], at: usize, v: Result<Counts, Refusal>) -> usize
     requires { at + most_line ≤ length out.old }
-    ensures { Puts out.old out.new at result (verdict_line v) × (result ≤ at + most_line) }
+    ensures { Puts out.old out.new at result (verdict_line (verdict_meant v)) × (result ≤ at + most_line) }
 {
     match v {
-        Verdict::Accepted {
-            terms,
-            names,
-            functions,
-            instructions,
-        } => accepted_line(
-            out,
-            at,
-            terms as u64,
-            names as u64,
-            functions as u64,
-            instructions as u64,
-        ),
-        Verdict::Refused { number, place } => refused_line(out, at, number as u64, place as u64),
+        Ok(counts) => accepted_line(out, at, counts),
+        Err(e) => refused_line(out, at, e),
     }
 }
