@@ -2,8 +2,9 @@
 // definition of rules' specs/Host.antt.
 #![tactic(auto)]
 
-ghost use Rattle.std.specs.Prelude.{◌≡◌, ◌+◌, ◌*◌, ◌≤◌};
+ghost use Rattle.std.specs.Prelude.{◌≡◌, [], ◌∷◌, ◌+◌, ◌*◌, ◌≤◌};
 ghost use Rattle.rules.specs.Limits.{most_functions, most_instructions};
+ghost use Rattle.rules.specs.Refusals.{number_of, place_of, verdict_meant};
 ghost use Rattle.rules.specs.Verdict.{verdict_of};
 ghost use Rattle.rules.specs.Host.{check_numbers, go_of, go_numbers, left_opened, left_output, left_state, object_of, open_of, open_numbers, part_numbers, test_of, test_numbers};
 ghost use Rattle.words.specs.Bytes.{Bytes};
@@ -14,9 +15,8 @@ ghost use Rattle.host.specs.Reading.{part_around};
 ghost use Rattle.rcm.specs.Answer.{SmallCounts};
 
 use host::go::Went;
-use host::test::Tested;
-use opening::Opened;
-use rules::Verdict;
+use rules::{Counts, Refusal};
+use run::Outcome;
 use state::Machine;
 use state::places::page_place;
 
@@ -28,58 +28,53 @@ fn packed(functions: usize, instructions: usize) -> u64
     (functions as u64) * 65536 + (instructions as u64)
 }
 
+// The numbers of a refusal.
+fn refused_numbers(e: Refusal) -> [u64; 4]
+    ensures { result ≡ 0 ∷ number_of e ∷ place_of e ∷ 0 ∷ [] }
+{
+    [0, u64::from(e.number()), e.place() as u64, 0]
+}
+
 // The numbers of a verdict.
-fn check_numbers(v: Verdict) -> [u64; 4]
-    requires { SmallCounts v }
-    ensures { result ≡ check_numbers v }
+fn check_numbers(v: Result<Counts, Refusal>) -> [u64; 4]
+    requires { SmallCounts (verdict_meant v) }
+    ensures { result ≡ check_numbers (verdict_meant v) }
 {
     match v {
-        Verdict::Accepted {
-            terms,
-            names,
-            functions,
-            instructions,
-        } => {
+        Ok(counts) => {
             [
                 1,
-                terms as u64,
-                names as u64,
-                packed(functions, instructions),
+                counts.terms as u64,
+                counts.names as u64,
+                packed(counts.functions, counts.instructions),
             ]
         }
-        Verdict::Refused { number, place } => [0, number as u64, place as u64, 0],
+        Err(e) => refused_numbers(e),
     }
 }
 
-// The numbers of opening's answer, whichever bytes it leaves.
-fn open_numbers(r: Opened) -> [u64; 4]
-    ensures { (t : Bytes) → result ≡ open_numbers (opened_meant r t) }
+// The numbers of opening's answer, whichever bytes it leaves, and of the state test's.
+fn done_numbers(r: Result<(), Refusal>) -> [u64; 4]
+    ensures opened { (t : Bytes) → result ≡ open_numbers (opened_meant r t) }
+    ensures tested { result ≡ test_numbers (tested_meant r) }
 {
     match r {
-        Opened::Refused { number, place } => [0, number as u64, place as u64, 0],
-        Opened::Opened => [1, 0, 0, 0],
+        Ok(()) => [1, 0, 0, 0],
+        Err(e) => refused_numbers(e),
     }
 }
 
 // The numbers of going on's answer, whichever bytes it leaves.
-fn go_numbers(r: Went) -> [u64; 4]
+fn go_numbers(r: Result<Went, Refusal>) -> [u64; 4]
     ensures { (t u : Bytes) → result ≡ go_numbers (went_meant r t u) }
 {
     match r {
-        Went::Refused { number, place } => [0, number as u64, place as u64, 0],
-        Went::Ended { value, steps } => [2, value as u64, steps, 0],
-        Went::Stopped { number, steps } => [3, number as u64, steps, 0],
-        Went::Running { steps } => [4, 0, steps, 0],
-    }
-}
-
-// The numbers of the state test's answer.
-fn test_numbers(r: Tested) -> [u64; 4]
-    ensures { result ≡ test_numbers (tested_meant r) }
-{
-    match r {
-        Tested::Refused { number, place } => [0, number as u64, place as u64, 0],
-        Tested::Passed => [1, 0, 0, 0],
+        Ok(Went { outcome, steps }) => match outcome {
+            Outcome::Ended(value) => [2, u64::from(value), steps, 0],
+            Outcome::Stopped(number) => [3, u64::from(number), steps, 0],
+            Outcome::Running => [4, 0, steps, 0],
+        },
+        Err(e) => refused_numbers(e),
     }
 }
 
@@ -110,7 +105,7 @@ pub fn rcm_open(file: &[u8], arguments: &[u8], state: &mut [u8], answer: &mut [u
     ensures state { state.new ≡ left_opened (open_of file.now arguments.now state.old) state.old }
 {
     let r = opening::open(file, arguments, state);
-    *answer = open_numbers(r);
+    *answer = done_numbers(r);
 }
 
 // Going on for at most budget steps.
@@ -135,7 +130,7 @@ pub fn rcm_test(file: &[u8], state: &[u8], answer: &mut [u64; 4])
     ensures { answer.new ≡ test_numbers (test_of file.now state.now) }
 {
     let r = host::test::state_test(file, state);
-    *answer = test_numbers(r);
+    *answer = done_numbers(r);
 }
 
 // The object around an address.

@@ -2,7 +2,7 @@
 // writing the text is left to the program.
 #![tactic(auto)]
 
-ghost use Rattle.std.specs.Prelude.{[], ◌+◌, ◌≤◌, length, replicate};
+ghost use Rattle.std.specs.Prelude.{◌≡◌, [], ◌+◌, ◌≤◌, length, replicate};
 ghost use Rattle.rules.specs.Limits.{state_bytes};
 ghost use Rattle.rules.specs.Host.{open_of};
 ghost use Rattle.lines.specs.Lines.{second_line, printed};
@@ -10,9 +10,10 @@ ghost use Rattle.lines.specs.Writing.{Puts, most_line};
 ghost use Rattle.report.specs.Report.{answer_line};
 
 use host::go::{Went, go};
-use lines::{ended_line, refused_line, running_line, stopped_line, verdict_line};
-use opening::{Opened, open};
-use rules::Verdict;
+use lines::{pair_line, refused_line, running_line, verdict_line};
+use opening::open;
+use rules::Refusal;
+use run::Outcome;
 use state::Machine;
 
 // Two lines have room in it.
@@ -22,33 +23,28 @@ pub const REPORT_BYTES: usize = 256;
 const BUDGET: u64 = 1000000;
 
 // The line of going on's answer.
-fn went_line(out: &mut [u8], at: usize, w: Went) -> usize
+fn went_line(out: &mut [u8], at: usize, w: Result<Went, Refusal>) -> usize
     requires { at + most_line ≤ length out.old }
     ensures { Puts out.old out.new at result (answer_line w) × (result ≤ at + most_line) }
 {
     match w {
-        Went::Refused { number, place } => refused_line(out, at, number as u64, place as u64),
-        Went::Ended { value, steps } => ended_line(out, at, value as u64, steps),
-        Went::Stopped { number, steps } => stopped_line(out, at, number as u64, steps),
-        Went::Running { steps } => running_line(out, at, steps),
+        Ok(Went { outcome, steps }) => match outcome {
+            Outcome::Ended(value) => pair_line(out, at, b"ended", u64::from(value), steps),
+            Outcome::Stopped(number) => pair_line(out, at, b"stopped", u64::from(number), steps),
+            Outcome::Running => running_line(out, at, steps),
+        },
+        Err(e) => refused_line(out, at, e),
     }
 }
 
 // Opening without arguments, and of an opened module going on, over a state and an output of zeros.
-fn second_line(file: &[u8], form: &[u8], out: &mut [u8], at: usize) -> usize
-    requires { at + most_line ≤ length out.old }
-    ensures { Puts out.old out.new at result (second_line file.now form.now (open_of file.now [] (replicate state_bytes 0))) × (result ≤ at + most_line) }
+fn open_and_go(file: &[u8], form: &[u8]) -> Result<Went, Refusal>
+    ensures { second_line file.now form.now (open_of file.now [] (replicate state_bytes 0)) ≡ answer_line result }
 {
     let mut state = [0u8; Machine::STATE_BYTES];
     let mut output = [0u8; Machine::OUTPUT_BYTES];
-    let opened = open(file, b"", &mut state);
-    match opened {
-        Opened::Refused { number, place } => refused_line(out, at, number as u64, place as u64),
-        Opened::Opened => {
-            let w = go(file, form, &mut state, &mut output, BUDGET);
-            went_line(out, at, w)
-        }
-    }
+    open(file, b"", &mut state)?;
+    go(file, form, &mut state, &mut output, BUDGET)
 }
 
 // The text, from the start of `out` on, and its length. The bytes behind it are left as they were.
@@ -58,15 +54,7 @@ pub fn report(file: &[u8], form: &[u8], out: &mut [u8; REPORT_BYTES]) -> usize
     let v = checker::verdict(file);
     let n = verdict_line(out, 0, v);
     match v {
-        Verdict::Accepted {
-            terms: _,
-            names: _,
-            functions: _,
-            instructions: _,
-        } => second_line(file, form, out, n),
-        Verdict::Refused {
-            number: _,
-            place: _,
-        } => n,
+        Ok(_) => went_line(out, n, open_and_go(file, form)),
+        Err(_) => n,
     }
 }

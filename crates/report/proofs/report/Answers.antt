@@ -4,15 +4,15 @@ use Rattle.lines.specs.Writing.{puts_then}
 use Rattle.report.specs.Report.{printed_accepted, printed_refused, puts_inside}
 use Rattle.report.proofs.report.Goals as goal
 
-pub returns-in-Accepted : goal.returns-in-Accepted
-returns-in-Accepted c =
+pub returns-in-Ok : goal.returns-in-Ok
+returns-in-Ok c =
     let a = c.args in
     let v = c.verdict_line-n.ensures in
-    let w = c.second_line.ensures in
-    rw (printed_accepted a.file.now a.form.now c.verdict-v.ensures c.in-Accepted.is) (puts_inside (puts_then v.0 w.0) (omega arith))
+    let w = c.went_line.ensures in
+    rw (printed_accepted a.file.now a.form.now c.verdict-v.ensures c.in-Ok.is, c.open_and_go.ensures) (puts_inside (puts_then v.0 w.0) (omega arith))
 
-pub returns-in-Refused : goal.returns-in-Refused
-returns-in-Refused c =
+pub returns-in-Err : goal.returns-in-Err
+returns-in-Err c =
     let a = c.args in
     let v = c.verdict_line-n.ensures in
-    rw (printed_refused a.file.now a.form.now c.verdict-v.ensures c.in-Refused.is) (puts_inside v.0 (omega arith))
+    rw (printed_refused a.file.now a.form.now c.verdict-v.ensures c.in-Err.is) (puts_inside v.0 (omega arith))
