@@ -1,12 +1,12 @@
--- What is remembered of runs: a byte for each distance into an object, 0 where nobody has asked. Assumes nothing.
-use Rattle.std.specs.Prelude.{◌≡◌, Bool, true, false, not, ◌&&◌, ◌≢◌, ℕ, ◌+◌, ◌*◌, ◌/◌, ◌%◌, ◌<◌, ◌≤◌, eqb, length, set, replicate}
-use Rattle.std.proofs.Common.{sym, ap, ◌∙◌, ⊎_elim, arith, eqb-true, length-set, get_or-set_same, get_or-set_other}
+-- What is remembered of runs: an answer for each distance into an object, none where nobody has asked. Assumes nothing.
+use Rattle.std.specs.Prelude.{◌≡◌, Bool, true, false, ◌≢◌, ℕ, ◌+◌, ◌*◌, ◌/◌, ◌%◌, ◌<◌, ◌≤◌, List, Option, Some, None, length, get_or, set, replicate}
+use Rattle.std.proofs.Common.{sym, ap, ◌∙◌, subst, ⊎_elim, arith, length-set, get_or-set_same, get_or-set_other}
 use Rattle.std.proofs.Math.Nat.{mod-le}
 use Rattle.std.proofs.Math.Decide.{ℕ_discrete}
-use Rattle.std.proofs.lemmas.Bool.{eqb-false, not-true}
-use Rattle.words.specs.Bytes.{Bytes, byte_at}
-use Rattle.words.specs.ByteLaws.{byte_past}
-use Rattle.words.specs.Choose.{lt_or_le, both}
+use Rattle.std.proofs.Math.ListN.{get_or-eq_default, length-replicate}
+use Rattle.std.proofs.lemmas.List.{get_or-replicate}
+use Rattle.words.specs.Bytes.{Bytes}
+use Rattle.words.specs.Choose.{lt_or_le}
 use Rattle.words.specs.Decide.{does, does_true, true_does}
 use Rattle.rules.specs.Limits.{size_limit}
 use Rattle.rules.specs.File.{untyped_mark}
@@ -16,7 +16,6 @@ use Rattle.rules.specs.Flat.{flat, size, dec_run, position_at}
 use Rattle.rules.specs.Decode.{module_of}
 use Rattle.layout.specs.Flat.{Plain, PlainFields, distance_zero, sized_some, size_sub}
 use Rattle.layout.specs.Runs.{same_run}
-use Rattle.state.specs.Frames.{zeros_zero}
 use Rattle.terms.specs.Heads.{place_of, tree_at}
 use Rattle.terms.specs.Extents.{Terms}
 use Rattle.terms.specs.ExtentLaws.{module_term}
@@ -26,48 +25,45 @@ use Rattle.terms.specs.Compare.{under}
 use Rattle.equality.specs.Equal.{places_same}
 use Rattle.runs.specs.Runs.{RunAtIs, InPageIs, page_none, page_past, page_in}
 
--- m remembers at which distances of the type u of a region under p the run of term t under q stands: 1 where it does, another number
--- where not
-pub record Remembers (f : Bytes) (u : ℕ) (p : Bytes) (t : ℕ) (q m : Bytes) : Type 0 where
-  pub each : (o : ℕ) → o < 256 → byte_at m o ≢ 0 → RunAtIs f u p o t q (eqb (byte_at m o) 1)
+-- m remembers at which distances of the type u of a region under p the run of term t under q stands
+pub record Remembers (f : Bytes) (u : ℕ) (p : Bytes) (t : ℕ) (q : Bytes) (m : List (Option Bool)) : Type 0 where
+  pub each : (o : ℕ) → o < 256 → (b : Bool) → get_or m o None ≡ Some b → RunAtIs f u p o t q b
 
 -- m remembers nothing
-pub record Forgotten (m : Bytes) : Type 0 where
-  pub each : (o : ℕ) → o < 256 → byte_at m o ≡ 0
+pub record Forgotten (m : List (Option Bool)) : Type 0 where
+  pub each : (o : ℕ) → o < 256 → get_or m o None ≡ None
 
 -- objects of type u have this size
 pub record SizeIs (f : Bytes) (u z : ℕ) : Type 0 where
   pub is : z ≡ size (module_of f) (entry_type f u)
   pub small : z ≤ 257
 
--- how an answer is remembered
-pub record Noted (b : Bool) (v : ℕ) : Type 0 where
-  pub some : v ≢ 0
-  pub is : eqb v 1 ≡ b
+none_there : (n o : ℕ) → get_or (replicate {A = Option Bool} n None) o None ≡ None
+none_there n o = ⊎_elim
+    (λ l. get_or-replicate {A = Option Bool} n o None None l)
+    (λ l. get_or-eq_default (replicate {A = Option Bool} n None) None (omega (arith, length-replicate {A = Option Bool} n None)))
+    (lt_or_le o n)
+
+pub forgotten : (n : ℕ) → Forgotten (replicate n None)
+forgotten n = record { each = λ o l. none_there n o }
 
 module _ {f : Bytes} {u : ℕ} {p : Bytes} {t : ℕ} {q : Bytes} where
-  pub remembers_none : (n : ℕ) → Remembers f u p t q (replicate n 0)
-  remembers_none n = record { each = λ o l d. absurd (d (zeros_zero n o)) }
+  pub remembers_nothing : {m : List (Option Bool)} → Forgotten m → Remembers f u p t q m
+  remembers_nothing w = record { each = λ o l b e. absurd (let z = w.each o l in cc) }
 
-  pub remembers_set : {m : Bytes} (o : ℕ) {v : ℕ} {b : Bool} → Noted b v → RunAtIs f u p o t q b → Remembers f u p t q m → Remembers f u p t q (set m o v)
-  remembers_set {m} o {v} {b} w h r = record { each = λ j k d. go j k d (ℕ_discrete j o) }
+  pub remembers_none : (n : ℕ) → Remembers f u p t q (replicate n None)
+  remembers_none n = remembers_nothing (forgotten n)
+
+  pub remembers_set : {m : List (Option Bool)} (o : ℕ) {b : Bool} → RunAtIs f u p o t q b → Remembers f u p t q m → Remembers f u p t q (set m o (Some b))
+  remembers_set {m} o {b} h r = record { each = λ j k c d. go j k c d (ℕ_discrete j o) }
     where
-      go : (j : ℕ) → j < 256 → byte_at (set m o v) j ≢ 0 → Dec (j ≡ o) → RunAtIs f u p j t q (eqb (byte_at (set m o v) j) 1)
-      go j k d (yes e) =
-          ⊎_elim (λ l. let g : byte_at (set m o v) j ≡ v = rw e (get_or-set_same m o v 0 l) in rw (g, w.is, e) h)
-          (λ l. absurd (d (byte_past (set m o v) j (omega (arith, length-set m o v)))))
+      go : (j : ℕ) → j < 256 → (c : Bool) → get_or (set m o (Some b)) j None ≡ Some c → Dec (j ≡ o) → RunAtIs f u p j t q c
+      go j k c d (yes e) =
+          ⊎_elim
+          (λ l. let g : get_or (set m o (Some b)) j None ≡ Some b = rw e (get_or-set_same m o (Some b) None l) in let s : b ≡ c = cc in let z : RunAtIs f u p j t q b = rw e h in subst (λ (x : Bool). RunAtIs f u p j t q x) s z)
+          (λ l. absurd (let g : get_or (set m o (Some b)) j None ≡ None = get_or-eq_default (set m o (Some b)) None (omega (arith, length-set m o (Some b))) in cc))
           (lt_or_le o (length m))
-      go j k d (no e) = let g : byte_at (set m o v) j ≡ byte_at m j = get_or-set_other m o j v 0 e in rw g (r.each j k (rw g at d))
-
-  pub remembers_nothing : {m : Bytes} → Forgotten m → Remembers f u p t q m
-  remembers_nothing w = record { each = λ o l d. absurd (d (w.each o l)) }
-
-pub forget_more : (m : Bytes) (i : ℕ) → ((j : ℕ) → j < i → byte_at m j ≡ 0) → (j : ℕ) → j < i + 1 → byte_at (set m i 0) j ≡ 0
-forget_more m i h j l = go (ℕ_discrete j i)
-  where
-    go : Dec (j ≡ i) → byte_at (set m i 0) j ≡ 0
-    go (yes e) = ⊎_elim (λ k. rw e (get_or-set_same m i 0 0 k)) (λ k. byte_past (set m i 0) j (omega (arith, length-set m i 0))) (lt_or_le i (length m))
-    go (no d) = get_or-set_other m i j 0 0 d ∙ h j (omega (arith, d))
+      go j k c d (no e) = r.each j k c (sym (get_or-set_other m o j (Some b) None e) ∙ d)
 
 -- ---- the place in a page, from the run
 
@@ -102,12 +98,11 @@ same_tree j f {n} {a} {b} u t p q terms ea eb h =
     ∙ does_true (dec_tree (sub (under {k = j} p) (tree_at f a)) (sub (under q) (tree_at f b))) h
     ∙ sym (ap (sub (under {k = j} q)) (module_term f n terms t ∙ ap (tree_at f) (sym eb)))
 
-pub run_whole : {f : Bytes} {n a b u z : ℕ} (o t : ℕ) (p q : Bytes) {r : Bool} → Terms f n → SizeIs f u z → 0 < z → z ≤ size_limit → eqb o 0 && not (eqb u untyped_mark) ≡ true
+pub run_whole : {f : Bytes} {n a b u z : ℕ} (o t : ℕ) (p q : Bytes) {r : Bool} → Terms f n → SizeIs f u z → 0 < z → z ≤ size_limit → o ≡ 0 → (u ≡ untyped_mark → ⊥)
     → a ≡ place_of n u → b ≡ place_of n t → (r ≡ places_same variable f a p b q) × (r ≡ places_same live f a p b q) → r ≡ true → RunAtIs f u p o t q true
-run_whole {f} {n} {a} {b} {u} {z} o t p q terms w h l start ea eb e er =
-    let d = both (eqb o 0) (not (eqb u untyped_mark)) start in
-    let typed : entry_type f u ≡ (module_of f).term u = entry_term f u (eqb-false u untyped_mark (not-true (eqb u untyped_mark) d.1)) in
-    rw (eqb-true o 0 d.0, typed) (
+run_whole {f} {n} {a} {b} {u} {z} o t p q terms w h l start some ea eb e er =
+    let typed : entry_type f u ≡ (module_of f).term u = entry_term f u some in
+    rw (start, typed) (
       stands variable typed (same_tree variable f u t p q terms ea eb (sym e.0 ∙ er)),
       stands live typed (same_tree live f u t p q terms ea eb (sym e.1 ∙ er)),
     )

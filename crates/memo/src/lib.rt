@@ -5,34 +5,20 @@ ghost use Rattle.std.specs.Prelude.{◌<◌, ◌≤◌, length};
 ghost use Rattle.rules.specs.Limits.{size_limit};
 ghost use Rattle.positions.specs.Table.{Table};
 ghost use Rattle.runs.specs.Runs.{RunAtIs, StandsIs};
-ghost use Rattle.memo.specs.Memo.{Forgotten, Noted, Remembers, SizeIs};
+ghost use Rattle.memo.specs.Memo.{Forgotten, Remembers, SizeIs};
 
 use rules::limits::SIZE_LIMIT;
 use state::Machine;
 use terms::{Live, UNTYPED};
 
-// Of a distance: nobody has asked yet, a run stands there, none does.
-const UNKNOWN: u8 = 0;
-
-const STANDS: u8 = 1;
-
-const STANDS_NOT: u8 = 2;
-
-fn note(stands: bool) -> u8
-    ensures { Noted stands result }
-{
-    if stands { STANDS } else { STANDS_NOT }
-}
+// Of each distance, whether a run stands there; none where nobody has asked yet.
+pub type Memo = [Option<bool>; SIZE_LIMIT];
 
 // Nothing is remembered any more.
-pub fn forget(memo: &mut [u8; SIZE_LIMIT])
+pub fn forget(memo: &mut Memo)
     ensures { Forgotten memo.new }
 {
-    let mut i = 0;
-    while i < SIZE_LIMIT {
-        memo[i] = UNKNOWN;
-        i += 1;
-    }
+    *memo = [None; SIZE_LIMIT];
 }
 
 // Whether the run of term t under q stands at byte o of the type u of a region under p, whose objects have this size: at the start of an
@@ -53,10 +39,11 @@ fn run_found(
     ensures { RunAtIs f.now u p.now o t q.now result }
 {
     // (the mark of an untyped region names no term: it would be compared as i8)
-    if (o == 0) & (u != UNTYPED) {
-        if equality::same_places(f, terms::place_of(n, u), p, terms::place_of(n, t), q) {
-            return true;
-        }
+    if o == 0
+        && u != UNTYPED
+        && equality::same_places(f, terms::place_of(n, u), p, terms::place_of(n, t), q)
+    {
+        return true;
     }
     runs::run_at(f, n, k, u, p, o, t, q, tab)
 }
@@ -73,18 +60,17 @@ fn run_known(
     t: usize,
     q: &[u8],
     tab: &[u64],
-    memo: &mut [u8; SIZE_LIMIT],
+    memo: &mut Memo,
 ) -> bool
     requires fact_1 { (Table f.now n k tab.now) × (length p.now ≤ 8) × (length q.now ≤ 8) × (SizeIs f.now u size) × (0 < size) × (size ≤ size_limit) × (o < size_limit) }
     requires fact_2 { Remembers f.now u p.now t q.now memo.old }
     ensures { (RunAtIs f.now u p.now o t q.now result) × (Remembers f.now u p.now t q.now memo.new) }
 {
-    let known = memo[o];
-    if known != UNKNOWN {
-        return known == STANDS;
+    if let Some(stands) = memo[o] {
+        return stands;
     }
     let stands = run_found(f, n, k, u, p, size, o, t, q, tab);
-    memo[o] = note(stands);
+    memo[o] = Some(stands);
     stands
 }
 
@@ -102,19 +88,13 @@ pub fn stands_known(
     t: usize,
     q: &[u8],
     tab: &[u64],
-    memo: &mut [u8; SIZE_LIMIT],
+    memo: &mut Memo,
 ) -> bool
     requires fact_1 { (Table f.now n k tab.now) × (length p.now ≤ 8) × (length q.now ≤ 8) × (SizeIs f.now u size) }
     requires fact_2 { Remembers f.now u p.now t q.now memo.old }
     ensures { (StandsIs f.now r.0 owner u p.now a t q.now result) × (Remembers f.now u p.now t q.now memo.new) }
 {
-    if a >= Machine::MEMORY_BYTES {
-        return false;
-    }
-    if words::wide(owner) != words::wide(r.0) + 1 {
-        return false;
-    }
-    if size == 0 {
+    if a >= Machine::MEMORY_BYTES || usize::from(owner) != usize::from(r.0) + 1 || size == 0 {
         return false;
     }
     let x = (a % Machine::PAGE_BYTES) as usize;
