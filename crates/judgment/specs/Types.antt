@@ -61,6 +61,9 @@ pub record IsFunction (f : Bytes) (n h : ℕ) (types : List RegisterType) : Type
   pub below : h < place_limit
   pub described : Described f h types
 
+pub terms_prop : (f : Bytes) (n : ℕ) → IsProp (Terms f n)
+terms_prop f n d g = λ i. record { are = ℕ_set _ _ d.are g.are i; few = le_prop d.few g.few i }
+
 module _ (f : Bytes) (h : ℕ) where
   describes_prop : (a : ℕ) (e : RegisterType) → IsProp (Describes f h a e)
   describes_prop a e d g = λ i. record {
@@ -83,12 +86,9 @@ module _ (f : Bytes) (h : ℕ) where
     each = λ a l q. describes_prop a (get_or types a unknown) (d.each a l q) (g.each a l q) i;
   }
 
-  terms_prop : (n : ℕ) → IsProp (Terms f n)
-  terms_prop n d g = λ i. record { are = ℕ_set _ _ d.are g.are i; few = le_prop d.few g.few i }
-
   pub is_function_prop : (n : ℕ) (types : List RegisterType) → IsProp (IsFunction f n h types)
   is_function_prop n types d g = λ i. record {
-    terms = terms_prop n d.terms g.terms i;
+    terms = terms_prop f n d.terms g.terms i;
     below = le_prop d.below g.below i;
     described = described_prop types d.described g.described i;
   }
