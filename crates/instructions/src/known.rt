@@ -13,7 +13,7 @@ use crate::code::Code;
 // places.
 pub const RUNS: usize = 239;
 
-// Nothing is remembered.
+// Nothing is remembered: no run has the number 0.
 pub fn no_runs() -> [usize; RUNS]
     ensures { (f : Bytes) → Remembered f result }
 {

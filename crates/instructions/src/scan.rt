@@ -49,7 +49,7 @@ pub struct Found {
     pub place: usize,
 }
 
-// The first instruction that breaks its rule; or their number, and the record of the last.
+// The first instruction that breaks its rule; or their number, and the record of the last, which refusal 8 asks for: both ways a place.
 pub fn first_instruction(
     f: &[u8],
     n: usize,

@@ -86,6 +86,7 @@ impl Function<'_> {
         let a = usize::from(x.a);
         let b = usize::from(x.b);
         let c = usize::from(x.c);
+        // by document 01's numbers, as the definition `arithmetic_of` chooses
         match x.kind {
             16 => self.constant(a, x.d),
             17 => self.copy(a, b),

@@ -66,6 +66,7 @@ impl Function<'_> {
     {
         let x = walk::file::record_at(self.file, r);
         let a = usize::from(x.a);
+        // by document 01's numbers, as the definition `control_of` chooses
         match x.kind {
             29 => self.input(a, usize::from(x.c)),
             30 => self.output(usize::from(x.b)),

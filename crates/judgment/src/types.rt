@@ -11,7 +11,8 @@ use functions::readers::register_term;
 // An operand is a byte.
 pub const OPERANDS: usize = 256;
 
-// The type of a register: its form, 0 where there is no such register; the region of a pointer, typed or untyped; the term, by number,
+// The type of a register: its form, by the number that the definition `form` gives it, and 0 where there is no such register, so that a
+// table of 256 is 2 KiB, cleared at once; the region of a pointer, typed or untyped; the term, by number,
 // and the term inside a pointer; the width of an integer, the bytes of an untyped pointer.
 #[derive(Clone, Copy)]
 pub struct RegisterType {
@@ -34,7 +35,7 @@ impl RegisterType {
 
 // ---- from the file
 
-// The term at place p, by number: n, which names nothing, at place 0.
+// The term at place p, by number: n, which names nothing, at place 0, as for `place_of`, of which this is the inverse.
 fn term_at(n: usize, p: usize) -> usize
     requires { p ≤ n }
     ensures { (place_of n result ≡ p) × (result ≤ n) }
@@ -51,7 +52,7 @@ pub fn is_register(f: &[u8], h: usize, a: usize) -> bool
 }
 
 // The type of register a.
-pub fn description(f: &[u8], n: usize, h: usize, a: usize) -> RegisterType
+pub(crate) fn description(f: &[u8], n: usize, h: usize, a: usize) -> RegisterType
     requires fact_1 { Terms f.now n }
     requires fact_2 { h < place_limit }
     ensures { Describes f.now h a result }

@@ -19,4 +19,4 @@ pub returns-in-3 : goal.returns-in-3
 returns-in-3 c = rw c.in-3.is
 
 pub returns-in_default : goal.returns-in_default
-returns-in_default c = let m = c.in_default.in_default-own.rest in let h : 4 ≤ c.args.w = omega (arith, m.1, m.0.1, m.0.0.1, m.0.0.0.1) in sym (lt-ltb _ _ (lt_of_lt_of_le c.ranges.d.fits (pow-le-pow_right {n = 256} (omega arith) {i = 4} {j = c.args.w} h)))
+returns-in_default c = let h : 4 ≤ c.args.w = omega arith in sym (lt-ltb _ _ (lt_of_lt_of_le c.ranges.d.fits (pow-le-pow_right {n = 256} (omega arith) {i = 4} {j = c.args.w} h)))
