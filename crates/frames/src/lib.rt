@@ -33,10 +33,8 @@ fn put_locals(a: &mut [u8; SET], n: u32, s: &mut [u8], t: u32, lo: u32, m: u32)
     requires { (length s.old ≡ state_bytes) × (n ≤ live_regions) × (t < most_frames) × (lo + m ≤ most_regions) }
     ensures { (s.new ≡ put_regions t lo (number_in a.old n) m s.old) × (a.new ≡ filled a.old n m) }
 {
-    let mut i: u32 = 0;
-    while i < m {
+    for i in 0..m {
         put_local(a, n + i, s, t, lo + i);
-        i += 1;
     }
 }
 
@@ -46,12 +44,10 @@ fn put_arguments(s: &mut [u8], k: u32, t: u32, xs: u64, n: u32)
     ensures { s.new ≡ put_registers t (λ i. frame_register s.old k (packed xs i)) n s.old }
 {
     let mut m = xs;
-    let mut i: u32 = 0;
-    while i < n {
+    for i in 0..n {
         let v = register(s, k, (m % 256) as u32);
         put_register(s, t, i, v);
-        m = m / 256;
-        i += 1;
+        m /= 256;
     }
 }
 
@@ -61,12 +57,10 @@ fn put_parameters(s: &mut [u8], k: u32, t: u32, rs: u32, n: u32)
     ensures { s.new ≡ put_regions t 0 (λ i. frame_map s.old k (packed rs i)) n s.old }
 {
     let mut m = rs;
-    let mut i: u32 = 0;
-    while i < n {
+    for i in 0..n {
         let r = region_of(s, k, RegionVariable(m % 256));
         put_region(s, t, RegionVariable(i), r);
-        m = m / 256;
-        i += 1;
+        m /= 256;
     }
 }
 

@@ -12,7 +12,6 @@ ghost use Rattle.regions.specs.Regions.{marked, lowest_in, live_by, Bounded};
 use rules::limits::CALLEES;
 use state::fields::{function, region_of};
 use state::{LiveRegion, RegionVariable};
-use words::wide;
 
 // The entries of a set of regions.
 pub const SET: usize = 257;
@@ -20,8 +19,7 @@ pub const SET: usize = 257;
 pub fn add_region(a: &mut [u8; SET], r: LiveRegion)
     ensures { a.new ≡ set a.old (suc r.0) 1 }
 {
-    let i = r.0 as usize;
-    a[i + 1] = 1;
+    a[usize::from(r.0) + 1] = 1;
 }
 
 // The set with the n regions of frame k from variable lo on.
@@ -29,11 +27,9 @@ pub fn add_locals(a: &mut [u8; SET], s: &[u8], k: u32, lo: u32, n: u32)
     requires { (length s.now ≡ state_bytes) × (k < most_frames) × (lo + n ≤ most_regions) }
     ensures { a.new ≡ marked (local_list (frame_map s.now k) lo n) a.old }
 {
-    let mut i: u32 = 0;
-    while i < n {
+    for i in 0..n {
         let r = region_of(s, k, RegionVariable(lo + i));
         add_region(a, r);
-        i += 1;
     }
 }
 
@@ -41,8 +37,7 @@ pub fn add_locals(a: &mut [u8; SET], s: &[u8], k: u32, lo: u32, n: u32)
 pub fn count_of(table: &[u8; CALLEES], g: u8) -> u32
     ensures { (result ≡ byte_at table.now g) × (result < 256) }
 {
-    let i = g as usize;
-    wide(table[i])
+    u32::from(table[usize::from(g)])
 }
 
 // The set with the local regions of the lowest n frames, and how many they are.
@@ -56,14 +51,12 @@ pub fn add_frames(
     requires { (length s.now ≡ state_bytes) × (n ≤ most_frames) × Bounded params.now locals.now }
     ensures { (a.new ≡ marked (live_by params.now locals.now (frame_function s.now) (frame_map s.now) n) a.old) × (result ≡ length (live_by params.now locals.now (frame_function s.now) (frame_map s.now) n)) × (result ≤ live_regions) }
 {
-    let mut c: u32 = 0;
-    let mut k: u32 = 0;
-    while k < n {
+    let mut c = 0;
+    for k in 0..n {
         let g = function(s, k);
         let m = count_of(locals, g);
         add_locals(a, s, k, count_of(params, g), m);
         c += m;
-        k += 1;
     }
     c
 }
@@ -73,14 +66,7 @@ pub fn lowest_number(a: &[u8; SET], n: u32) -> u32
     requires { n < 255 }
     ensures { (result ≡ lowest_in a.now n) × (result ≤ n + 1) }
 {
-    let past = n + 1;
-    let mut r: u32 = 0;
-    while r < past {
-        let at = r as usize;
-        if a[at + 1] == 0 {
-            return r;
-        }
-        r += 1;
-    }
-    r
+    (0..n + 1)
+        .find(|r| a[*r as usize + 1] == 0)
+        .unwrap_or(n + 1)
 }

@@ -19,10 +19,8 @@ fn close_page(a: &[u8; SET], s: &mut [u8], known: &mut [u32; KNOWN], p: u32)
     requires { (length s.old ≡ state_bytes) × (p < pages) × Used known.old s.old }
     ensures { (s.new ≡ closed_if (owned_in a.now s.old p) p s.old) × Used known.new s.new }
 {
-    let i = owner(s, p) as usize;
-    if a[i] != 0 {
-        let q = p as usize;
-        known[q] = 0;
+    if a[usize::from(owner(s, p))] != 0 {
+        known[p as usize] = 0;
         put_owner(s, p, 0);
         clear_marks(s, p);
     }
@@ -33,10 +31,8 @@ fn close_four(a: &[u8; SET], s: &mut [u8], known: &mut [u32; KNOWN], p: u32)
     requires { (length s.old ≡ state_bytes) × (p + 4 ≤ pages) × Used known.old s.old }
     ensures { (s.new ≡ closed_from a.now p 4 s.old) × Used known.new s.new }
 {
-    let mut i: u32 = 0;
-    while i < 4 {
+    for i in 0..4 {
         close_page(a, s, known, p + i);
-        i += 1;
     }
 }
 
@@ -54,10 +50,8 @@ fn close_pages(a: &[u8; SET], s: &mut [u8], known: &mut [u32; KNOWN])
     requires { (length s.old ≡ state_bytes) × (byte_at a.now 0 ≡ 0) × Used known.old s.old }
     ensures { (s.new ≡ written (closing_by (owned_in a.now s.old) pages) s.old) × Used known.new s.new }
 {
-    let mut i: u32 = 0;
-    while i < 16 {
+    for i in 0..16 {
         close_owned(a, s, known, 4 * i);
-        i += 1;
     }
 }
 

@@ -8,13 +8,13 @@ use borrow.Author.Rules.{rules}
 use Rattle.frames.proofs.put_parameters.Goals as goal
 
 pub loop-i-init : goal.loop-i-init
-loop-i-init c = (c.requires.0, omega arith, shifted_none _, regions_none _ _ _ _)
+loop-i-init c = (c.requires.0, shifted_none _, regions_none _ _ _ _)
 
 pub region_of-r-requires : goal.region_of-r-requires
-region_of-r-requires c = (c.loop-i.invariant.0, (omega arith, rw c.loop-i.invariant.2 (c.requires.4 c.loop-i.i c.loop-i-test.true)))
+region_of-r-requires c = (c.loop-i.invariant.0, (omega arith, rw c.loop-i.invariant.1 (c.requires.4 c.loop-i.i c.loop-i-test.true)))
 
 pub loop-i-preserved : goal.loop-i-preserved
-loop-i-preserved c = (search rules, omega arith, shifted_more _ _ _ c.loop-i.invariant.2, parameters_more _ _ _ _ _ _ _ _ _ c.requires.1 c.loop-i.invariant.2 c.loop-i.invariant.3 c.region_of-r.ensures c.put_region.ensures)
+loop-i-preserved c = (search rules, shifted_more _ _ _ c.loop-i.invariant.1, parameters_more _ _ _ _ _ _ _ _ _ c.requires.1 c.loop-i.invariant.1 c.loop-i.invariant.2 c.region_of-r.ensures c.put_region.ensures)
 
 pub returns : goal.returns
-returns c = let e : c.loop-i.i ≡ c.args.n = omega arith in rw e at c.loop-i.invariant.3
+returns c = let e : c.loop-i.i ≡ c.args.n = omega arith in rw e at c.loop-i.invariant.2

@@ -1,12 +1,9 @@
 use mathlib.Core.Path.{◌≡◌}
-use Prim.Native.Nat.{◌-◌, ◌*◌, ◌≤◌}
+use Prim.Native.Nat.{◌*◌, ◌≤◌}
 use lib.ListN.{length}
 use Rattle.rules.specs.State.{frame_function, frame_map}
 use Rattle.regions.specs.Regions.{marked, live_by}
 use Rattle.regions.proofs.add_frames.Given as goal
 
 abbrev pub invariant-loop-k : goal.invariant-loop-k
-invariant-loop-k l = (l.k ≤ l.n) × (l.a ≡ marked (live_by l.params l.locals (frame_function l.s) (frame_map l.s) l.k) l.initial.a) × (l.c ≡ length (live_by l.params l.locals (frame_function l.s) (frame_map l.s) l.k)) × (l.c ≤ 7 * l.k)
-
-abbrev pub decreases-loop-k : goal.decreases-loop-k
-decreases-loop-k l = l.n - l.k
+invariant-loop-k l = (l.a ≡ marked (live_by l.params l.locals (frame_function l.s) (frame_map l.s) l.k) l.initial.a) × (l.c ≡ length (live_by l.params l.locals (frame_function l.s) (frame_map l.s) l.k)) × (l.c ≤ 7 * l.k)

@@ -5,10 +5,10 @@ use Rattle.regions.specs.Regions.{locals_marked, locals_none}
 use Rattle.regions.proofs.add_locals.Goals as goal
 
 pub loop-i-init : goal.loop-i-init
-loop-i-init c = (omega arith, locals_none _ _ _)
+loop-i-init c = locals_none _ _ _
 
 pub loop-i-preserved : goal.loop-i-preserved
-loop-i-preserved c = (omega arith, c.add_region.ensures ∙ locals_marked _ _ _ _ _ _ c.loop-i.invariant.1 c.region_of-r.ensures)
+loop-i-preserved c = c.add_region.ensures ∙ locals_marked _ _ _ _ _ _ c.loop-i.invariant c.region_of-r.ensures
 
 pub returns : goal.returns
-returns c = let e : c.loop-i.i ≡ c.args.n = omega arith in rw e at c.loop-i.invariant.1
+returns c = let e : c.loop-i.i ≡ c.args.n = omega arith in rw e at c.loop-i.invariant

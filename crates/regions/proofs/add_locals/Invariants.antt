@@ -1,12 +1,8 @@
 use mathlib.Core.Path.{◌≡◌}
-use Prim.Native.Nat.{◌-◌, ◌≤◌}
 use Rattle.rules.specs.Heap.{local_list}
 use Rattle.rules.specs.State.{frame_map}
 use Rattle.regions.specs.Regions.{marked}
 use Rattle.regions.proofs.add_locals.Given as goal
 
 abbrev pub invariant-loop-i : goal.invariant-loop-i
-invariant-loop-i l = (l.i ≤ l.n) × (l.a ≡ marked (local_list (frame_map l.s l.k) l.lo l.i) l.initial.a)
-
-abbrev pub decreases-loop-i : goal.decreases-loop-i
-decreases-loop-i l = l.n - l.i
+invariant-loop-i l = (l.a ≡ marked (local_list (frame_map l.s l.k) l.lo l.i) l.initial.a)

@@ -4,4 +4,4 @@ use native.Mathlib.Numerals.{add-one}
 use Rattle.regions.proofs.add_region.Goals as goal
 
 pub returns : goal.returns
-returns c = rw (add-one c.args.r.0) refl
+returns c = rw (c.from.ensures, add-one c.args.r.0) refl

@@ -7,12 +7,12 @@ use Rattle.pages.specs.Known.{Used, used_closed}
 use Rattle.returns.specs.Left.{closed_if, owned_in}
 use Rattle.returns.proofs.close_page.Goals as goal
 
-pub returns-then-a-i-ne0 : goal.returns-then-a-i-ne0
+pub returns-then-a-from-ne0 : goal.returns-then-a-from-ne0
 unfolding closed_if
-returns-then-a-i-ne0 c = let e : owned_in c.args.a.now c.args.s.now c.args.p ≡ true = used_one _ (rw c.owner-i.ensures at c.if-a-i-ne0.true) in
+returns-then-a-from-ne0 c = let e : owned_in c.args.a.now c.args.s.now c.args.p ≡ true = used_one _ (rw (c.from.ensures, c.owner.ensures) at c.if-a-from-ne0.true) in
     let w = rw c.put_owner.ensures at c.clear_marks.ensures in
     (rw e w, subst (Used (set c.args.known.now c.args.p 0)) (sym w) (used_closed c.args.known.now c.args.s.now c.requires.0 c.args.p c.requires.1 c.requires.2))
 
-pub returns-else-a-i-ne0 : goal.returns-else-a-i-ne0
+pub returns-else-a-from-ne0 : goal.returns-else-a-from-ne0
 unfolding closed_if
-returns-else-a-i-ne0 c = let e : owned_in c.args.a.now c.args.s.now c.args.p ≡ false = used_zero _ (rw c.owner-i.ensures at c.if-a-i-ne0.false) in (rw e refl, c.requires.2)
+returns-else-a-from-ne0 c = let e : owned_in c.args.a.now c.args.s.now c.args.p ≡ false = used_zero _ (rw (c.from.ensures, c.owner.ensures) at c.if-a-from-ne0.false) in (rw e refl, c.requires.2)

@@ -7,14 +7,14 @@ use borrow.Author.Rules.{rules}
 use Rattle.returns.proofs.close_pages.Goals as goal
 
 pub loop-i-init : goal.loop-i-init
-loop-i-init c = (c.requires.0, omega arith, closing_start (owned_in c.args.a.now c.args.s.now) c.args.s.now, c.requires.2)
+loop-i-init c = (c.requires.0, closing_start (owned_in c.args.a.now c.args.s.now) c.args.s.now, c.requires.2)
 
 pub close_owned-requires : goal.close_owned-requires
-close_owned-requires c = (c.loop-i.invariant.0, omega arith, c.requires.1, c.loop-i.invariant.3)
+close_owned-requires c = (c.loop-i.invariant.0, omega arith, c.requires.1, c.loop-i.invariant.2)
 
 pub loop-i-preserved : goal.loop-i-preserved
 loop-i-preserved c = let e : 4 * (c.loop-i.i + 1) ≡ 4 * c.loop-i.i + 4 = omega arith in
-    (search rules, omega arith, rw e (from_closing c.args.a.now c.args.s.now _ _ (4 * c.loop-i.i) 4 c.loop-i.invariant.2 c.close_owned.ensures.0), c.close_owned.ensures.1)
+    (search rules, rw e (from_closing c.args.a.now c.args.s.now _ _ (4 * c.loop-i.i) 4 c.loop-i.invariant.1 c.close_owned.ensures.0), c.close_owned.ensures.1)
 
 pub returns : goal.returns
-returns c = let e : 4 * c.loop-i.i ≡ 64 = omega arith in (rw e at c.loop-i.invariant.2, c.loop-i.invariant.3)
+returns c = let e : 4 * c.loop-i.i ≡ 64 = omega arith in (rw e at c.loop-i.invariant.1, c.loop-i.invariant.2)
