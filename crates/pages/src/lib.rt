@@ -3,6 +3,7 @@
 #![tactic(auto)]
 
 ghost use Rattle.std.specs.Prelude.{◌≡◌, [], ◌∷◌, ◌+◌, ◌*◌, ◌<◌, ◌≤◌, length};
+ghost use Rattle.std.specs.Option.{SomeIff};
 ghost use Rattle.words.specs.Bytes.{Bytes};
 ghost use Rattle.rules.specs.Limits.{state_bytes, pages, page_bytes, live_regions, mark_bytes};
 ghost use Rattle.rules.specs.State.{low_page, end_page, view, page_owner, page_mark, written, put_mark};
@@ -18,23 +19,20 @@ use state::fields::{clear_mark, clear_memory, owner, put_owner, range, set_mark}
 use state::places::marks_place;
 use state::range::{end_page, low_page};
 use state::{LiveRegion, Machine};
-use words::{bit_of, wide};
 
 pub mod bytes;
 
-// What a new object takes: a place of a page that its region has, or the first place of a page that it is granted, or nothing (stop 34).
+// What a new object takes: a place of a page that its region has, or the first place of a page that it is granted.
 #[derive(Clone, Copy)]
 pub enum Chosen {
     Place(u32, u32),
     Page(u32),
-    Nothing,
 }
 
-// What the search for room returns: a page, a place in it, and the last page that it looked at.
+// What the search for room returns: a page with a place in it, if there is one, and the last page that it looked at.
 #[derive(Clone, Copy)]
 pub struct Room {
-    pub page: u32,
-    pub place: u32,
+    pub found: Option<(u32, u32)>,
     pub last: u32,
 }
 
@@ -52,30 +50,16 @@ pub fn places_in_page(size: u32) -> u32
 fn lowest_zero(b: u8) -> u32
     ensures { (result ≡ lowest_zero b) × (result ≤ 8) }
 {
-    let mut i: u32 = 0;
-    while i < 8 {
-        if bit_of(b, i) == 0 {
-            return i;
-        }
-        i += 1;
-    }
-    i
+    b.trailing_ones()
 }
 
-// The first byte of page p's marks that has an unused place, or 32; the bytes below from have none.
-fn open_byte(s: &[u8], p: u32, from: usize) -> usize
+// The first byte of page p's marks that has an unused place; the bytes below from have none.
+fn open_byte(s: &[u8], p: u32, from: usize) -> Option<usize>
     requires { (length s.now ≡ state_bytes) × (p < pages) × (from ≤ mark_bytes) × FullBelow s.now p from }
-    ensures { (result ≡ open_byte s.now p) × (result ≤ mark_bytes) }
+    ensures { SomeIff result (open_byte s.now p < mark_bytes) (open_byte s.now p) }
 {
     let at = marks_place(p);
-    let mut i = from;
-    while i < Machine::MARK_BYTES {
-        if s[at + i] != 255 {
-            return i;
-        }
-        i += 1;
-    }
-    i
+    (from..Machine::MARK_BYTES).find(|i| s[at + *i] != 255)
 }
 
 // The lowest unused place of page p, or n, the number of its places; the places below from are used. (A byte of 255 is eight used places.)
@@ -86,13 +70,13 @@ fn lowest_place(s: &[u8], p: u32, from: u32, n: u32) -> u32
     if n <= from {
         return n;
     }
-    let i = open_byte(s, p, (from / 8) as usize);
-    if i < Machine::MARK_BYTES {
-        let at = marks_place(p) + i;
-        let j = 8 * (i as u32) + lowest_zero(s[at]);
-        if j < n { j } else { n }
-    } else {
-        n
+    match open_byte(s, p, (from / 8) as usize) {
+        Some(i) => {
+            let at = marks_place(p) + i;
+            let j = 8 * (i as u32) + lowest_zero(s[at]);
+            if j < n { j } else { n }
+        }
+        None => n,
     }
 }
 
@@ -110,35 +94,27 @@ const HINT_PAGE: usize = HINT_REGION + 2;
 
 pub const KNOWN: usize = HINT_REGION + 3;
 
-// The lowest of the pages low to past - 1 that nobody owns; else past, or low where that is higher.
-pub fn unowned_page(s: &[u8], low: u32, past: u32) -> u32
+// The lowest of the pages low to past - 1 that nobody owns.
+pub fn unowned_page(s: &[u8], low: u32, past: u32) -> Option<u32>
     requires { (length s.now ≡ state_bytes) × (past ≤ pages) }
-    ensures { result ≡ unowned_page (page_owner s.now) low past }
+    ensures { SomeIff result (unowned_page (page_owner s.now) low past < past) (unowned_page (page_owner s.now) low past) }
 {
-    let mut q = low;
-    while q < past {
-        if owner(s, q) == 0 {
-            return q;
-        }
-        q += 1;
-    }
-    q
+    (low..past).find(|q| owner(s, *q) == 0)
 }
 
-// The lowest unused place of page p, or n. The table gets what was found.
-fn place_in(s: &[u8], known: &mut [u32; KNOWN], p: u32, n: u32) -> u32
+// The lowest unused place of page p, of n. The table gets what was found.
+fn place_in(s: &[u8], known: &mut [u32; KNOWN], p: u32, n: u32) -> Option<u32>
     requires { (length s.now ≡ state_bytes) × (p < pages) × (n ≤ page_bytes) × Used known.old s.now }
-    ensures { (result ≡ unused_place (page_mark s.now) n 1 p) × Used known.new s.now }
+    ensures { SomeIff result (unused_place (page_mark s.now) n 1 p < n) (unused_place (page_mark s.now) n 1 p) × Used known.new s.now }
 {
     let i = p as usize;
     let j = lowest_place(s, p, known[i], n);
     known[i] = j;
-    j
+    if j < n { Some(j) } else { None }
 }
 
-// The lowest of the pages low to past - 1 that is region r's and has an unused place, with its lowest; else past, or low where that is higher,
-// and n. The search looks at the region's own pages alone and ends at the first with room; the last that it looked at is 0 where the region
-// has none.
+// The lowest of the pages low to past - 1 that is region r's and has an unused place, with its lowest. The search looks at the region's own
+// pages alone and ends at the first with room; the last that it looked at is 0 where the region has none.
 pub fn find_room(
     s: &[u8],
     known: &mut [u32; KNOWN],
@@ -148,27 +124,26 @@ pub fn find_room(
     n: u32,
 ) -> Room
     requires { (length s.now ≡ state_bytes) × (past ≤ pages) × (n ≤ page_bytes) × Used known.old s.now }
-    ensures { Found (page_owner s.now) (page_mark s.now) low past r.0 n 1 result.page result.place result.last × Used known.new s.now }
+    ensures { Found (page_owner s.now) (page_mark s.now) low past r.0 n 1 result.found result.last × Used known.new s.now }
 {
-    let mut p = low;
-    let mut last: u32 = 0;
-    while p < past {
-        if wide(owner(s, p)) == wide(r.0) + 1 {
-            let j = place_in(s, known, p, n);
-            if j < n {
-                return Room {
-                    page: p,
-                    place: j,
-                    last: p,
-                };
+    let mut last = 0;
+    for p in low..past {
+        if u32::from(owner(s, p)) == u32::from(r.0) + 1 {
+            match place_in(s, known, p, n) {
+                Some(j) => {
+                    return Room {
+                        found: Some((p, j)),
+                        last: p,
+                    };
+                }
+                None => {
+                    last = p;
+                }
             }
-            last = p;
         }
-        p += 1;
     }
     Room {
-        page: p,
-        place: n,
+        found: None,
         last: last,
     }
 }
@@ -178,7 +153,7 @@ pub fn find_room(
 fn search_start(known: &[u32; KNOWN], low: u32, r: LiveRegion, n: u32) -> u32
     ensures { (s : Bytes) → Used known.now s → low ≡ low_page (view s).range → NoneBefore (page_owner s) (page_mark s) low result r.0 n 1 }
 {
-    if (known[HINT_REGION] == wide(r.0) + 1)
+    if (known[HINT_REGION] == u32::from(r.0) + 1)
         & (known[HINT_PLACES] == n)
         & (low <= known[HINT_PAGE])
     {
@@ -192,14 +167,14 @@ fn search_start(known: &[u32; KNOWN], low: u32, r: LiveRegion, n: u32) -> u32
 fn remember(known: &mut [u32; KNOWN], r: LiveRegion, n: u32, p: u32)
     ensures { known.new ≡ remembered known.old r.0 n p }
 {
-    known[HINT_REGION] = wide(r.0) + 1;
+    known[HINT_REGION] = u32::from(r.0) + 1;
     known[HINT_PLACES] = n;
     known[HINT_PAGE] = p;
 }
 
-// What a new object of region r takes of the pages that the machine may own, n places to a page: rules' `allocate_in` for objects of a
-// size with n places (chosen-from).
-pub fn allocate(s: &[u8], known: &mut [u32; KNOWN], r: LiveRegion, n: u32) -> Chosen
+// What a new object of region r takes of the pages that the machine may own, n places to a page, if it finds any: rules' `allocate_in` for
+// objects of a size with n places (chosen-from).
+pub fn allocate(s: &[u8], known: &mut [u32; KNOWN], r: LiveRegion, n: u32) -> Option<Chosen>
     requires { (length s.now ≡ state_bytes) × (n ≤ page_bytes) × Used known.old s.now }
     ensures { (result ≡ chosen (view s.now).owner (view s.now).mark (low_page (view s.now).range) (end_page (view s.now).range) r.0 n 1) × Within pages n result × Used known.new s.now }
 {
@@ -208,17 +183,12 @@ pub fn allocate(s: &[u8], known: &mut [u32; KNOWN], r: LiveRegion, n: u32) -> Ch
     let past = end_page(own);
     let from = search_start(known, low, r, n);
     let x = find_room(s, known, from, past, r, n);
-    let p = x.page;
-    let j = x.place;
-    if p < past {
-        remember(known, r, n, p);
-        return Chosen::Place(p, j);
-    }
-    let q = unowned_page(s, low, past);
-    if q < past {
-        Chosen::Page(q)
-    } else {
-        Chosen::Nothing
+    match x.found {
+        Some((p, j)) => {
+            remember(known, r, n, p);
+            Some(Chosen::Place(p, j))
+        }
+        None => unowned_page(s, low, past).map(Chosen::Page),
     }
 }
 

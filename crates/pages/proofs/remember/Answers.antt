@@ -5,4 +5,4 @@ use Rattle.pages.proofs.remember.Goals as goal
 
 pub returns : goal.returns
 unfolding remembered
-returns c = rw (c.wide.ensures.0, add-one)
+returns c = rw (c.from.ensures, add-one)

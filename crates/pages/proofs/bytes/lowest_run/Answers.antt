@@ -1,29 +1,55 @@
 -- `pages::bytes::lowest_run` meets its contract: the scan starts behind the known places, goes on behind each used one, and ends where no run
 -- can start.
-use mathlib.Core.Path.{◌≡◌, sym, ◌∙◌}
+use mathlib.Core.Path.{◌≡◌, sym, ap, ◌∙◌}
 use Prim.Native.Nat.{◌+◌, ◌-◌}
 use native.Mathlib.Omega.{arith}
 use Rattle.rules.specs.Limits.{page_bytes}
-use Rattle.rules.specs.Step.{run_starts}
+use Rattle.rules.specs.State.{page_mark}
 use Rattle.state.specs.Runs.{scan_more, scan_past, scan_found}
-use Rattle.pages.specs.Known.{used_most}
 use Rattle.pages.specs.Untyped.{scan_from, scan_over}
 use Rattle.pages.proofs.bytes.lowest_run.Goals as goal
+use Rattle.pages.proofs.bytes.lowest_run.Goals.{then-mark-ne0, else-mark-ne0+else-k-start}
 
-pub loop-i-init : goal.loop-i-init
-loop-i-init c = let start = c in let h = used_most start.args.s.now start.args.p start.args.from start.requires.4 in (omega arith, omega arith, scan_from start.args.s.now start.args.c start.args.p start.requires.2 start.args.from start.requires.4)
+pub returns-then-c-from : goal.returns-then-c-from
+returns-then-c-from c = λ l.
+    let e = scan_over c.args.s.now c.args.c c.args.p page_bytes c.args.from 0 (omega arith) (scan_from c.args.s.now c.args.c c.args.p c.requires.2 c.args.from c.requires.4) in
+    omega arith
 
-pub returns-then-starts-j : goal.returns-then-starts-j
-returns-then-starts-j c =
-    let start = c in
-    let e : page_bytes + 1 - start.args.c ≡ run_starts page_bytes start.args.c = omega arith in
-    e ∙ scan_over start.args.s.now start.args.c start.args.p page_bytes c.loop-i.j c.loop-i.i (let h = c.if-starts-j.true in omega arith) c.loop-i.invariant.2
+pub loop-k-init : goal.loop-k-init
+loop-k-init c =
+    let z : 0 ≡ c.args.from - c.args.from = omega arith in
+    record { above = omega arith; short = omega arith; scanned = rw z at (scan_from c.args.s.now c.args.c c.args.p c.requires.2 c.args.from c.requires.4) }
 
-pub loop-i-preserved-then-mark-eq0 : goal.loop-i-preserved-then-mark-eq0
-loop-i-preserved-then-mark-eq0 c = (omega arith, omega arith, scan_more _ _ _ _ _ c.loop-i.invariant.2 (sym c.mark.ensures.0 ∙ c.if-mark-eq0.true))
+pub loop-k-preserved : goal.loop-k-preserved
+loop-k-preserved c =
+    let k = c.loop-k.k in
+    let start = c.loop-k.start in
+    let mark = page_mark c.args.s.now in
+    let here : start + (k - start) ≡ k = omega arith in
+    elim c.if-mark-ne0.branch [
+      | then-mark-ne0 w ↦
+          let past = scan_past _ _ _ _ _ c.loop-k.invariant.short c.loop-k.invariant.scanned (λ e. w.if-mark-ne0.true (c.mark.ensures.0 ∙ ap (mark c.args.p) (sym here) ∙ e)) in
+          let z : k + 1 - c.if-mark-ne0.start ≡ 0 = omega arith in
+          let d : c.if-mark-ne0.start ≡ start + (k - start) + 1 = omega arith in
+          record { above = omega arith; short = omega arith; scanned = rw (z, d) past }
+      | else-mark-ne0+else-k-start w ↦
+          let more = scan_more _ _ _ _ _ c.loop-k.invariant.scanned (ap (mark c.args.p) here ∙ sym c.mark.ensures.0 ∙ w.if-mark-ne0.false) in
+          let z : k + 1 - c.if-mark-ne0.start ≡ k - start + 1 = omega arith in
+          record { above = omega arith; short = omega arith; scanned = rw (z, w.start-is) more }
+    ]
 
-pub loop-i-preserved : goal.loop-i-preserved
-loop-i-preserved c = (omega arith, omega arith, scan_past _ _ _ _ _ c.loop-i-test.true c.loop-i.invariant.2 (λ e. c.if-mark-eq0.false (c.mark.ensures.0 ∙ e)))
+pub returns-then-k-start : goal.returns-then-k-start
+returns-then-k-start c =
+    let k = c.loop-k.k in
+    let start = c.loop-k.start in
+    let mark = page_mark c.args.s.now in
+    let here : start + (k - start) ≡ k = omega arith in
+    let more = scan_more _ _ _ _ _ c.loop-k.invariant.scanned (ap (mark c.args.p) here ∙ sym c.mark.ensures.0 ∙ c.if-mark-ne0.false) in
+    let z : k - start + 1 ≡ c.args.c = omega arith in
+    let e = scan_found _ page_bytes c.args.c c.args.p start (omega arith) (rw z at more) in
+    (rw (← e) (omega arith), e)
 
 pub returns : goal.returns
-returns c = let e : c.loop-i.i ≡ c.args.c = omega arith in scan_found _ _ _ _ _ (omega arith) (rw e at c.loop-i.invariant.2)
+returns c = λ l.
+    let e = scan_over c.args.s.now c.args.c c.args.p page_bytes c.loop-k.start (c.loop-k.k - c.loop-k.start) (omega arith) c.loop-k.invariant.scanned in
+    omega arith
