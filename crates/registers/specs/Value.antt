@@ -74,7 +74,7 @@ value_none m W σ x bytes a b c h = h
 -- ---- where a run stands, from the code's answer
 
 module _ (f s : Bytes) (n r : ℕ) where
-  type_is : (typing_of f s n).type r ≡ region_tree f s n r
+  pub type_is : (typing_of f s n).type r ≡ region_tree f s n r
   unfolding view
   type_is = refl
 

@@ -1,10 +1,8 @@
 -- A primitive in the pages: the number that its bytes hold, as a value of a term under regions given as bytes. Assumes nothing.
 use Rattle.std.proofs.Math.Path.{◌≡◌, refl}
-use Rattle.std.proofs.Common.{sym, ap, subst, ◌∙◌, inl, inr, ⊎_elim, pow-suc, arith, eqb-true}
-use Rattle.std.specs.Prelude.{Bool, true, false, ◌&&◌, ◌≢◌, ◌⊎◌, ℕ, zero, suc, ◌+◌, ◌-◌, ◌*◌, ◌^◌, ◌/◌, ◌<◌, eqb, replicate}
-use Rattle.std.proofs.lemmas.Bool.{eqb-false}
+use Rattle.std.proofs.Common.{sym, ap, subst, ◌∙◌, inl, inr, ⊎_elim, pow-suc, arith}
+use Rattle.std.specs.Prelude.{Option, None, Some, Bool, true, false, ◌≢◌, ◌⊎◌, ℕ, zero, suc, ◌+◌, ◌*◌, ◌^◌, ◌/◌, ◌<◌}
 use Rattle.words.specs.Bytes.{Bytes, AllBytes}
-use Rattle.words.specs.Choose.{true_not_false, both}
 use Rattle.rules.specs.Limits.{page_bytes}
 use Rattle.rules.specs.Types.{variable, live, Variable, Region, Tree, int, ptr, arr, struct, raw_ptr, bytes, form, number_of, inner, region_of, width, sub}
 use Rattle.rules.specs.Flat.{flat}
@@ -19,14 +17,15 @@ use Rattle.terms.specs.Heads.{place_of}
 use Rattle.terms.specs.Extents.{Small, Terms}
 use Rattle.terms.specs.declared.Extent.{Extent}
 use Rattle.positions.specs.Table.{exact_of}
-use Rattle.runs.specs.Runs.{StandsIs}
+use Rattle.runs.specs.Runs.{StandsIs, UntypedIs}
 use Rattle.stack.specs.Tells.{Tells, tells_map, tells_yes, tells_no, does_tells}
-use Rattle.objects.specs.Homes.{HomeIs}
+use Rattle.objects.specs.Homes.{HomeIs, StandsAt}
 use Rattle.objects.specs.declared.Home.{Home}
 use Rattle.positions.specs.Maps.{Narrow, map_list}
-use Rattle.registers.specs.Value.{typing_of, value_int, value_ptr, value_raw, type_some, stands_none, untyped_none}
-use Rattle.memo.specs.Memo.{SizeIs, Remembers, Forgotten, remembers_none, remembers_nothing, same_tree}
+use Rattle.registers.specs.Value.{typing_of, value_int, value_ptr, value_raw, type_some, stands_none, untyped_none, untyped_some}
+use Rattle.memo.specs.Memo.{SizeIs, Remembers, Forgotten, remembers_nothing, same_tree}
 use Rattle.values.specs.declared.memory.Target.{Target}
+use Rattle.values.specs.declared.memory.Target.TheVariants.{Nowhere, Untyped, Run}
 use Rattle.values.specs.declared.memory.Aim.{Aim}
 
 -- ---- numbers in the pages
@@ -89,89 +88,145 @@ integer_at {f} {s} {n} {to} {t} {x} all e =
 abbrev pub Points : Bytes → ℕ → Type 0
 Points f t = (form ((module_of f).term t) ≡ 2) ⊎ (form ((module_of f).term t) ≡ 11)
 
--- r is the term of the run that they lead to, or the number of their bytes
-pub record RunOf (f : Bytes) (t : ℕ) (raw : Bool) (r : ℕ) : Type 0 where
-  pub typed : raw ≡ false → Inner f ((module_of f).term t) r
-  pub untyped : raw ≡ true → r ≡ number_of ((module_of f).term t)
+-- their region
+abbrev pub region_under : Bytes → Bytes → ℕ → ℕ
+region_under f to t = byte_under to (region_of ((module_of f).term t)).number
 
-pub run_typed : {f : Bytes} {t : ℕ} {raw : Bool} {r : ℕ} → raw ≡ false → Inner f ((module_of f).term t) r → RunOf f t raw r
-run_typed e i = record { typed = λ h. i; untyped = λ h. absurd (true_not_false h e) }
+-- it is not live
+pub record ToNone (f s : Bytes) (n : ℕ) (to : Bytes) (t : ℕ) : Type 0 where
+  pub points : Points f t
+  pub dead : HomeIs f s n (region_under f to t) None
 
-pub run_untyped : {f : Bytes} {t : ℕ} {raw : Bool} {r : ℕ} → raw ≡ true → r ≡ number_of ((module_of f).term t) → RunOf f t raw r
-run_untyped e i = record { typed = λ h. absurd (true_not_false e h); untyped = λ h. i }
+-- untyped pointers: to `many` bytes
+pub record ToBytes (f s : Bytes) (n : ℕ) (to : Bytes) (t region : ℕ) (h : Home) (many : ℕ) : Type 0 where
+  pub raw : form ((module_of f).term t) ≡ 11
+  pub number : many ≡ number_of ((module_of f).term t)
+  pub under : region ≡ region_under f to t
+  pub home : StandsAt f s n region h
 
-pub record TargetIs (f s : Bytes) (n : ℕ) (to : Bytes) (t : ℕ) (g : Target) : Type 0 where
-  pub typed : g.raw ≡ false → (form ((module_of f).term t) ≡ 2) × ((module_of f).term g.run ≡ inner ((module_of f).term t))
-  pub untyped : g.raw ≡ true → (form ((module_of f).term t) ≡ 11) × (g.run ≡ number_of ((module_of f).term t))
-  pub region : g.region ≡ byte_under to (region_of ((module_of f).term t)).number
-  pub home : HomeIs f s n g.region (record { frame = g.frame; entry = g.entry })
-  pub map : g.frame ≢ 0 → g.map ≡ map_list s (g.frame - 1)
-  pub size : SizeIs f g.entry g.size
+-- typed ones: to a run of term `run`
+pub record ToRun (f s : Bytes) (n : ℕ) (to : Bytes) (t region : ℕ) (h : Home) (map : Bytes) (z run : ℕ) : Type 0 where
+  pub typed : form ((module_of f).term t) ≡ 2
+  pub inside : (module_of f).term run ≡ inner ((module_of f).term t)
+  pub under : region ≡ region_under f to t
+  pub home : StandsAt f s n region h
+  pub map_is : map ≡ map_list s h.frame
+  pub size : SizeIs f h.entry z
 
-pub target_is : {f s : Bytes} {n : ℕ} {to : Bytes} {t u r w k run : ℕ} {h : Home} {map : Bytes} {e : Extent} → Points f t → u ≡ (region_of ((module_of f).term t)).number → r ≡ byte_under to u
-    → w ≡ r → HomeIs f s n w h → (h.frame ≢ 0 → map ≡ map_list s (h.frame - 1)) → (e ≡ exact_of (flat (module_of f) (entry_type f h.entry))) × Small e
-    → k ≡ form ((module_of f).term t) → RunOf f t (eqb k 11) run
-    → TargetIs f s n to t (record { region = r; frame = h.frame; entry = h.entry; map = map; size = e.size; raw = eqb k 11; run = run })
-target_is {f} {s} {n} {to} {k = k} {h = h} points eu er ew home em ee ek i =
-    let z = rw ew at home in
-    let two : eqb k 11 ≡ false → form ((module_of f).term _) ≡ 2 = λ d. ⊎_elim (λ e. e) (λ e. absurd (eqb-false k 11 d (ek ∙ e))) points in
-    record {
-      typed = λ d. (two d, (i.typed d).pointer (two d));
-      untyped = λ d. (sym ek ∙ eqb-true k 11 d, i.untyped d);
-      region = er ∙ ap (byte_under to) eu;
-      home = record { none = z.none; some = z.some };
-      map = em;
-      size = record { is = ap (λ (x : Extent). x.size) ee.0; small = ee.1.0 };
-    }
+abbrev pub TargetIs : Bytes → Bytes → ℕ → Bytes → ℕ → Target → Type 0
+TargetIs f s n to t Nowhere = ToNone f s n to t
+TargetIs f s n to t (Untyped region h many) = ToBytes f s n to t region h many
+TargetIs f s n to t (Run region h map z run) = ToRun f s n to t region h map z run
 
-module _ {f s : Bytes} {n : ℕ} {to : Bytes} {t : ℕ} {g : Target} (is : TargetIs f s n to t g) where
-  points : Points f t
-  points = go g.raw refl
+module _ {f s : Bytes} {n : ℕ} {to : Bytes} {t u r w : ℕ} (eu : u ≡ (region_of ((module_of f).term t)).number) (er : r ≡ byte_under to u) (ew : w ≡ r) where
+  pub target_none : Points f t → HomeIs f s n w None → TargetIs f s n to t Nowhere
+  target_none points dead = let e : w ≡ region_under f to t = ew ∙ er ∙ ap (byte_under to) eu in record { points = points; dead = rw e at dead }
+
+  pub target_bytes : {h : Home} {k many : ℕ} → HomeIs f s n w (Some h) → k ≡ form ((module_of f).term t) → k ≡ 11 → many ≡ number_of ((module_of f).term t)
+      → TargetIs f s n to t (Untyped r h many)
+  target_bytes home ek e em = record { raw = sym ek ∙ e; number = em; under = er ∙ ap (byte_under to) eu; home = rw ew at home }
+
+  pub target_run : {h : Home} {k run : ℕ} {map : Bytes} {e : Extent} → Points f t → HomeIs f s n w (Some h) → k ≡ form ((module_of f).term t) → k ≢ 11 → map ≡ map_list s h.frame
+      → (e ≡ exact_of (flat (module_of f) (entry_type f h.entry))) × Small e → Inner f ((module_of f).term t) run → TargetIs f s n to t (Run r h map e.size run)
+  target_run points home ek d em ee i =
+      let two : form ((module_of f).term t) ≡ 2 = ⊎_elim (λ e. e) (λ e. absurd (d (ek ∙ e))) points in
+      record {
+        typed = two;
+        inside = i.pointer two;
+        under = er ∙ ap (byte_under to) eu;
+        home = rw ew at home;
+        map_is = em;
+        size = record { is = ap (λ (x : Extent). x.size) ee.0; small = ee.1.0 };
+      }
+
+-- ---- an aim, and what is remembered of its runs
+
+abbrev pub Remembered : Bytes → Bytes → Target → Bytes → Type 0
+Remembered f to Nowhere m = Unit {0}
+Remembered f to (Untyped region h many) m = Unit {0}
+Remembered f to (Run region h map z run) m = Remembers f h.entry map run to m
+
+-- a is an aim of pointers, and m is what is remembered of it
+pub record AimHolds (f s : Bytes) (n : ℕ) (a : Aim) (m : Bytes) : Type 0 where
+  pub target : TargetIs f s n a.to a.t a.target
+  pub remembers : Remembered f a.to a.target m
+
+module _ {f s : Bytes} {n : ℕ} {a : Aim} {m : Bytes} (holds : AimHolds f s n a m) where
+  pub to_none : a.target ≡ Nowhere → ToNone f s n a.to a.t
+  to_none e = subst (λ (g : Target). TargetIs f s n a.to a.t g) e holds.target
+
+  pub to_bytes : {r many : ℕ} {h : Home} → a.target ≡ Untyped r h many → ToBytes f s n a.to a.t r h many
+  to_bytes e = subst (λ (g : Target). TargetIs f s n a.to a.t g) e holds.target
+
+  -- whatever it leads to, it is one of pointers
+  pub aim_points : Points f a.t
+  aim_points = go a.target holds.target
     where
-      go : (b : Bool) → g.raw ≡ b → Points f t
-      go true e = inr (is.untyped e).0
-      go false e = inl (is.typed e).0
+      go : (g : Target) → TargetIs f s n a.to a.t g → Points f a.t
+      go Nowhere w = w.points
+      go (Untyped region h many) w = inr w.raw
+      go (Run region h map z run) w = inl w.typed
 
-  region_is : g.region ≡ (under {k = live} to (region_of ((module_of f).term t))).number
-  region_is = is.region ∙ sym (ap (λ (z : Region live). z.number) (under_is to (region_of ((module_of f).term t))))
+  module _ {r z run : ℕ} {h : Home} {map : Bytes} (e : a.target ≡ Run r h map z run) where
+    pub to_run : ToRun f s n a.to a.t r h map z run
+    to_run = subst (λ (g : Target). TargetIs f s n a.to a.t g) e holds.target
 
-module _ {f s : Bytes} {n : ℕ} {to : Bytes} {t x : ℕ} {g : Target} (is : TargetIs f s n to t g) {v : ℕ} (ev : v ≡ memory_number (view s).memory x 4) where
-  -- a value of its type, in four bytes
-  by_value : {b : Bool} → Tells b (Value (module_of f) (typing_of f s n) (sub (under to) ((module_of f).term t)) v) → Tells b (PrimitiveAt f s n to t x)
-  by_value u = tells_map (λ z. record { is = z }) (λ z. z.is) (rw (width_pointer (under to) ((module_of f).term t) (points is), ← ev) u)
+    pub remembered : Remembers f h.entry map run a.to m
+    remembered = subst (λ (g : Target). Remembered f a.to g m) e holds.remembers
 
-  pub pointer_zero : v ≡ 0 → PrimitiveAt f s n to t x
-  pointer_zero z =
-      (by_value (⊎_elim
-      (λ e. value_ptr (module_of f) (typing_of f s n) (under to) ((module_of f).term t) e (tells_yes (inl z)))
-      (λ e. value_raw (module_of f) (typing_of f s n) (under to) ((module_of f).term t) e (tells_yes (inl z))) (points is))).holds refl
+    pub aim_kept : {k : Bytes} → Remembers f h.entry map run a.to k → AimHolds f s n a k
+    aim_kept {k} w = record { target = holds.target; remembers = subst (λ (g : Target). Remembered f a.to g k) (sym e) w }
 
-  pub pointer_at : {b : Bool} → v ≢ 0 → g.raw ≡ false → Tells b (Stands (module_of f) (typing_of f s n) (sub (under to) ((module_of f).term g.run)) g.region v)
-      → Tells b (PrimitiveAt f s n to t x)
-  pointer_at d e w =
-      by_value (value_ptr (module_of f) (typing_of f s n) (under to) ((module_of f).term t) (is.typed e).0
-      (tells_map (λ z. inr z) (⊎_elim (λ z. absurd (d z)) (λ z. z)) (rw ((is.typed e).1, region_is is) at w)))
-
-  pub pointer_raw : {b : Bool} → v ≢ 0 → g.raw ≡ true → Tells b (InUntyped (typing_of f s n) g.run g.region v) → Tells b (PrimitiveAt f s n to t x)
-  pointer_raw d e w =
-      by_value (value_raw (module_of f) (typing_of f s n) (under to) ((module_of f).term t) (is.untyped e).0
-      (tells_map (λ z. inr z) (⊎_elim (λ z. absurd (d z)) (λ z. z)) (rw ((is.untyped e).1, region_is is) at w)))
-
-  -- in a region that is not live there is nothing to lead to
-  pub pointer_dead : v ≢ 0 → g.frame ≡ 0 → Tells false (PrimitiveAt f s n to t x)
-  pointer_dead d z = go g.raw refl
-    where
-      go : (b : Bool) → g.raw ≡ b → Tells false (PrimitiveAt f s n to t x)
-      go true e = pointer_raw d e (tells_no (untyped_none is.home z))
-      go false e = pointer_at d e (tells_no (stands_none is.home z))
+-- ---- the pointer at an address
 
 -- where a run stands, its regions given as bytes
-pub stands_under : {f s : Bytes} {n r : ℕ} {h : Home} → HomeIs f s n r h → (t : ℕ) (q : Bytes) {a o : ℕ} {p : Bytes} {b : Bool} → Narrow f → h.frame ≢ 0
-    → p ≡ map_list s (h.frame - 1) → o ≡ page_owner s (a / page_bytes) → StandsIs f r o h.entry p a t q b
-    → Tells b (Stands (module_of f) (typing_of f s n) (sub (under q) ((module_of f).term t)) r a)
+stands_under : {f s : Bytes} {n r : ℕ} {h : Home} → StandsAt f s n r h → (t : ℕ) (q : Bytes) {a o : ℕ} {p : Bytes} {b : Bool} → Narrow f → p ≡ map_list s h.frame → o ≡ page_owner s (a / page_bytes)
+    → StandsIs f r o h.entry p a t q b → Tells b (Stands (module_of f) (typing_of f s n) (sub (under q) ((module_of f).term t)) r a)
 unfolding view
-stands_under {f} {s} {n} {r} home t q {a} narrow d ep eo is =
-    does_tells (dec_stands (module_of f) (typing_of f s n) (sub (under q) ((module_of f).term t)) r a) (is (typing_of f s n) (sym eo) (type_some home narrow d ep))
+stands_under {f} {s} {n} {r} home t q {a} narrow ep eo is =
+    does_tells (dec_stands (module_of f) (typing_of f s n) (sub (under q) ((module_of f).term t)) r a) (is (typing_of f s n) (sym eo) (type_some home narrow ep))
+
+region_is : (f to : Bytes) (t : ℕ) {r : ℕ} → r ≡ region_under f to t → r ≡ (under {k = live} to (region_of ((module_of f).term t))).number
+region_is f to t e = e ∙ sym (ap (λ (z : Region live). z.number) (under_is to (region_of ((module_of f).term t))))
+
+module _ {f s : Bytes} {n : ℕ} {to : Bytes} {t x : ℕ} {v : ℕ} (ev : v ≡ memory_number (view s).memory x 4) where
+  -- a value of its type, in four bytes
+  by_value : {b : Bool} → Points f t → Tells b (Value (module_of f) (typing_of f s n) (sub (under to) ((module_of f).term t)) v) → Tells b (PrimitiveAt f s n to t x)
+  by_value points u = tells_map (λ z. record { is = z }) (λ z. z.is) (rw (width_pointer (under to) ((module_of f).term t) points, ← ev) u)
+
+  pub pointer_zero : Points f t → v ≡ 0 → PrimitiveAt f s n to t x
+  pointer_zero points z =
+      (by_value points (⊎_elim
+      (λ e. value_ptr (module_of f) (typing_of f s n) (under to) ((module_of f).term t) e (tells_yes (inl z)))
+      (λ e. value_raw (module_of f) (typing_of f s n) (under to) ((module_of f).term t) e (tells_yes (inl z))) points)).holds refl
+
+  by_run : {b : Bool} {r : ℕ} (run : ℕ) → v ≢ 0 → form ((module_of f).term t) ≡ 2 → (module_of f).term run ≡ inner ((module_of f).term t) → r ≡ region_under f to t
+      → Tells b (Stands (module_of f) (typing_of f s n) (sub (under to) ((module_of f).term run)) r v) → Tells b (PrimitiveAt f s n to t x)
+  by_run run d two i er w =
+      by_value (inl two) (value_ptr (module_of f) (typing_of f s n) (under to) ((module_of f).term t) two
+      (tells_map (λ z. inr z) (⊎_elim (λ z. absurd (d z)) (λ z. z)) (rw (i, region_is f to t er) at w)))
+
+  by_bytes : {b : Bool} {r many : ℕ} → v ≢ 0 → form ((module_of f).term t) ≡ 11 → many ≡ number_of ((module_of f).term t) → r ≡ region_under f to t
+      → Tells b (InUntyped (typing_of f s n) many r v) → Tells b (PrimitiveAt f s n to t x)
+  by_bytes d raw e er w =
+      by_value (inr raw) (value_raw (module_of f) (typing_of f s n) (under to) ((module_of f).term t) raw
+      (tells_map (λ z. inr z) (⊎_elim (λ z. absurd (d z)) (λ z. z)) (rw (e, region_is f to t er) at w)))
+
+  pub pointer_run : {b : Bool} {r z run : ℕ} {h : Home} {map : Bytes} {o : ℕ} → Narrow f → v ≢ 0 → ToRun f s n to t r h map z run → o ≡ page_owner s (v / page_bytes)
+      → StandsIs f r o h.entry map v run to b → Tells b (PrimitiveAt f s n to t x)
+  pointer_run narrow d w eo is = by_run _ d w.typed w.inside w.under (stands_under w.home _ to narrow w.map_is eo is)
+
+  pub pointer_bytes : {b : Bool} {r many : ℕ} {h : Home} {o : ℕ} → Narrow f → v ≢ 0 → ToBytes f s n to t r h many → o ≡ page_owner s (v / page_bytes)
+      → UntypedIs r o h.entry v many b → Tells b (PrimitiveAt f s n to t x)
+  pointer_bytes narrow d w eo is = by_bytes d w.raw w.number w.under (untyped_some w.home narrow eo is)
+
+  -- in a region that is not live there is nothing to lead to
+  pub pointer_none : v ≢ 0 → ToNone f s n to t → Tells false (PrimitiveAt f s n to t x)
+  pointer_none d w =
+      ⊎_elim
+      (λ e. by_value w.points (value_ptr (module_of f) (typing_of f s n) (under to) ((module_of f).term t) e (tells_no (⊎_elim (λ z. d z) (λ z. stands_none f s n _ w.dead (rw (← region_is f to t refl) at z))))))
+      (λ e. by_bytes d e refl refl (tells_no (untyped_none f s n _ w.dead)))
+      w.points
 
 -- ---- pointers of the same type, one after the other
 
@@ -182,25 +237,24 @@ primitive_same {f} {s} {n} {x = x} e w =
     record { is = subst (λ (T : Tree live). Value (module_of f) (typing_of f s n) T (memory_number (view s).memory x (width T))) e w.is }
 
 -- the last aim, if there is one, with what is remembered of it
-pub record AimIs (f s : Bytes) (n : ℕ) (a : Aim) (m : Bytes) : Type 0 where
-  pub target : a.known ≡ true → TargetIs f s n a.to a.t a.target
-  pub remembers : Remembers f a.target.entry a.target.map a.target.run a.to m
+abbrev pub LastHolds : Bytes → Bytes → ℕ → Option Aim → Bytes → Type 0
+LastHolds f s n None m = Unit {0}
+LastHolds f s n (Some a) m = AimHolds f s n a m
 
 -- the aim of pointers of term t under `to`
 pub record AimsAt (f s : Bytes) (n : ℕ) (to : Bytes) (t : ℕ) (a : Aim) (m : Bytes) : Type 0 where
-  pub target : TargetIs f s n a.to a.t a.target
-  pub remembers : Remembers f a.target.entry a.target.map a.target.run a.to m
+  pub holds : AimHolds f s n a m
   pub same : sub (under {k = live} a.to) ((module_of f).term a.t) ≡ sub (under to) ((module_of f).term t)
 
-pub aim_none : {f s : Bytes} {n : ℕ} {a : Aim} → a.known ≡ false → AimIs f s n a (replicate 256 0)
-aim_none e = record { target = λ h. absurd (true_not_false h e); remembers = remembers_none 256 }
-
-pub aim_kept : {f s : Bytes} {n : ℕ} {to : Bytes} {t : ℕ} {a : Aim} {m : Bytes} {terms x y : ℕ} {b : Bool} → AimIs f s n a m → Terms f terms → x ≡ place_of terms a.t → y ≡ place_of terms t
-    → (b ≡ places_same variable f x a.to y to) × (b ≡ places_same live f x a.to y to) → (a.known && b) ≡ true → AimsAt f s n to t a m
-aim_kept {f} {to = to} {t = t} {a = a} {b = b} w terms ex ey e h =
-    let k = both a.known b h in
-    record { target = w.target k.0; remembers = w.remembers; same = same_tree live f a.t t a.to to terms ex ey (sym e.1 ∙ k.1) }
+pub aim_same : {f s : Bytes} {n : ℕ} {to : Bytes} {t : ℕ} {a : Aim} {m : Bytes} {terms x y : ℕ} {b : Bool} → AimHolds f s n a m → Terms f terms → x ≡ place_of terms a.t → y ≡ place_of terms t
+    → (b ≡ places_same variable f x a.to y to) × (b ≡ places_same live f x a.to y to) → b ≡ true → AimsAt f s n to t a m
+aim_same {f} {to = to} {t = t} {a = a} w terms ex ey e h = record { holds = w; same = same_tree live f a.t t a.to to terms ex ey (sym e.1 ∙ h) }
 
 pub aim_new : {f s : Bytes} {n : ℕ} {to : Bytes} {t : ℕ} {g : Target} {m : Bytes} → TargetIs f s n to t g → Forgotten m
-    → AimsAt f s n to t (record { known = true; t = t; to = to; target = g }) m
-aim_new is w = record { target = is; remembers = remembers_nothing w; same = refl }
+    → AimsAt f s n to t (record { t = t; to = to; target = g }) m
+aim_new {f} {to = to} {g = g} {m = m} is w = record { holds = record { target = is; remembers = go g }; same = refl }
+  where
+    go : (g : Target) → Remembered f to g m
+    go Nowhere = tt
+    go (Untyped region h many) = tt
+    go (Run region h map z run) = remembers_nothing w

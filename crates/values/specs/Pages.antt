@@ -1,6 +1,6 @@
 -- The primitives of owned pages, from tests of one primitive at a time: region by region, position by position, page by page, place by
 -- place. A position has the same term in each place of its region's pages, so that it is found once for all of them. Assumes nothing.
-use Rattle.std.specs.Prelude.{◌≡◌, refl, Bool, true, not, List, ◌≢◌, ◌⊎◌, eqb}
+use Rattle.std.specs.Prelude.{◌≡◌, None, refl, Bool, true, not, List, ◌≢◌, ◌⊎◌, eqb}
 use Rattle.std.proofs.Math.Path.{sym, ap, subst}
 use Rattle.std.proofs.Common.{◌∙◌, inl, inr, ⊎_elim, mul-suc}
 use Prim.Native.Nat.{ℕ, zero, suc, ◌+◌, ◌-◌, ◌*◌, ◌<◌, ◌≤◌}
@@ -33,7 +33,7 @@ use Rattle.positions.specs.Positions.{Keeps, Agree, Found, keeps_held}
 use Rattle.positions.specs.Distances.{found_nth, layout_under}
 use Rattle.positions.specs.Maps.{each_of, Narrow, map_list}
 use Rattle.stack.specs.Tells.{Tells, tells_map, tells_yes, tells_not, tells_eq}
-use Rattle.objects.specs.Homes.{region_tree, HomeIs}
+use Rattle.objects.specs.Homes.{region_tree, HomeIs, StandsAt}
 use Rattle.marks.specs.Ends.{PlacesIn}
 use Rattle.objects.specs.declared.Home.{Home}
 use Rattle.registers.specs.Value.{map_short, type_is, type_some}
@@ -70,15 +70,15 @@ pub record ObjectsAre (f s : Bytes) (n p terms structs : ℕ) (o : Objects) : Ty
   pub few : o.count ≤ 257
   pub layout : flat (module_of f) (page_tree f s n p) ≡ sub_layout (under {k = live} o.to) (term_layout f structs o.place)
 
-pub objects_are : {f s : Bytes} {n p r terms structs a : ℕ} {tab : List ℕ} {h : Home} {map to : Bytes} {e : Extent} → Table f terms structs tab → Narrow f → HomeIs f s n r h
-    → r ≡ page_owner s p - 1 → h.frame ≢ 0 → h.entry ≢ untyped_mark → a ≡ place_of terms h.entry → map ≡ map_list s (h.frame - 1) → Agree to map
+pub objects_are : {f s : Bytes} {n p terms structs a : ℕ} {tab : List ℕ} {h : Home} {map to : Bytes} {e : Extent} → Table f terms structs tab → Narrow f
+    → StandsAt f s n (page_owner s p - 1) h → h.entry ≢ untyped_mark → a ≡ place_of terms h.entry → map ≡ map_list s h.frame → Agree to map
     → e ≡ exact_of (flat (module_of f) ((module_of f).term h.entry)) → e.count ≤ 257
     → ObjectsAre f s n p terms structs (record { place = a; to = to; size = e.size; count = e.count })
-objects_are {f} {s} {n} {p} {r} {terms} {structs} {a} {tab} {h} {map} {to} {e} table narrow home er d typed ea em agree ee few =
+objects_are {f} {s} {n} {p} {terms} {structs} {a} {tab} {h} {map} {to} {e} table narrow home typed ea em agree ee few =
     let T : Tree variable = (module_of f).term h.entry in
-    let keeps : Keeps to = keeps_held to map (map_short s (h.frame - 1) em) agree in
+    let keeps : Keeps to = keeps_held to map (map_short s h.frame em) agree in
     let tree : page_tree f s n p ≡ sub (under {k = live} map) T =
-    ap (region_tree f s n) (sym er) ∙ sym (type_is home) ∙ type_some home narrow d em ∙ ap (sub (under {k = live} map)) (entry_term f h.entry typed) in
+    sym (type_is f s n (page_owner s p - 1)) ∙ type_some home narrow em ∙ ap (sub (under {k = live} map)) (entry_term f h.entry typed) in
     record {
       low = rw ea (place_le terms h.entry);
       keeps = keeps;
@@ -260,23 +260,22 @@ module _ {f s : Bytes} {n p o : ℕ} (eo : o ≡ page_owner s p) where
   pub leads_seen : ¬ ((q : ℕ) → q < p → Apart s o q) → Leads f s n p
   leads_seen seen = record { is = λ u. absurd (seen (rw eo u)) }
 
-  pub leads_dead : {h : Home} → o ≢ 0 → HomeIs f s n (o - 1) h → h.frame ≡ 0 → Leads f s n p
-  leads_dead d w z =
+  pub leads_dead : o ≢ 0 → HomeIs f s n (o - 1) None → Leads f s n p
+  leads_dead d w =
       record {
         is = λ u q h e.
             let eq : page_owner s q ≡ o = e ∙ sym eo in
-            page_dead f s n q (λ k. d (sym eq ∙ k)) (ap (λ (x : ℕ). region_tree f s n (x - 1)) eq ∙ w.none z);
+            page_dead f s n q (λ k. d (sym eq ∙ k)) (ap (λ (x : ℕ). region_tree f s n (x - 1)) eq ∙ w);
       }
 
-  pub leads_untyped : {h : Home} → o ≢ 0 → HomeIs f s n (o - 1) h → h.frame ≢ 0 → h.entry ≡ untyped_mark → Leads f s n p
+  pub leads_untyped : {h : Home} → o ≢ 0 → StandsAt f s n (o - 1) h → h.entry ≡ untyped_mark → Leads f s n p
   unfolding sub
-  leads_untyped {h} d w z b =
-      let k : h.frame ≡ suc (h.frame - 1) = omega (arith, z) in
+  leads_untyped {h} d w b =
       record {
         is = λ u q l e.
             let eq : page_owner s q ≡ o = e ∙ sym eo in
             page_untyped f s n q (λ k. d (sym eq ∙ k))
-            (ap (λ (x : ℕ). region_tree f s n (x - 1)) eq ∙ (w.some (h.frame - 1) k).1 ∙ ap (close (frame_map s (h.frame - 1))) (entry_bytes f h.entry b));
+            (ap (λ (x : ℕ). region_tree f s n (x - 1)) eq ∙ w.tree ∙ ap (close (frame_map s h.frame)) (entry_bytes f h.entry b));
       }
 
   pub leads_by : {terms structs : ℕ} {a : Objects} {b : Bool} → o ≢ 0 → p < pages → ((q : ℕ) → q < p → Apart s o q) → ObjectsAre f s n p terms structs a

@@ -15,33 +15,49 @@ pub mod memory;
 pub mod pages;
 
 use marks::ends_ok;
-use registers::registers_ok;
+use objects::typed::TypedState;
+use registers::mapped::MappedState;
 use rules::limits::CALLEES;
 use shape::shape_ok;
+use stack::untested::UntestedState;
 
 // "the state test": the cheap parts first, and none after one that fails.
-pub fn passes(
-    f: &[u8],
-    starts: &[usize; CALLEES],
+pub fn passes<'a>(
+    f: &'a [u8],
+    starts: &'a [usize; CALLEES],
     functions: usize,
     terms: usize,
     structs: usize,
-    tab: &[u64],
-    s: &[u8],
+    tab: &'a [u64],
+    s: &'a [u8],
 ) -> bool
     requires fact_1 { Known f.now starts.now functions }
     requires fact_2 { Table f.now terms structs tab.now }
     requires fact_3 { Narrow f.now }
     ensures { result ≡ does (dec_passes (module_of f.now) s.now) }
 {
-    if !shape_ok(f, starts, functions, s) {
+    let state = UntestedState {
+        file: f,
+        starts,
+        functions,
+        bytes: s,
+        frames: u32::from(state::total::frames(s)),
+    };
+    if !shape_ok(&state) {
         return false;
     }
-    if !ends_ok(f, starts, functions, terms, structs, tab, s) {
+    let typed = TypedState {
+        state,
+        terms,
+        structs,
+        extents: tab,
+    };
+    if !ends_ok(&typed) {
         return false;
     }
-    if !registers_ok(f, starts, functions, terms, structs, tab, s) {
+    let mapped = MappedState { typed };
+    if !mapped.registers_ok() {
         return false;
     }
-    crate::pages::primitives_ok(f, starts, functions, terms, structs, tab, s)
+    crate::pages::primitives_ok(&mapped)
 }

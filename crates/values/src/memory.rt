@@ -1,19 +1,15 @@
 // A pointer in the pages, typed or untyped, as a value of a term, whose regions are given as bytes. (An integer's bytes always hold one of
 // its values.)
-ghost use Rattle.std.specs.Prelude.{◌≡◌, false, ◌≢◌, ◌-◌, ◌<◌, ◌^◌};
+ghost use Rattle.std.specs.Prelude.{◌≡◌, ◌<◌, ◌^◌};
 ghost use Rattle.rules.specs.State.{view, memory_number};
-ghost use Rattle.positions.specs.Table.{Table};
 ghost use Rattle.stack.specs.Tells.{Tells};
-ghost use Rattle.stack.specs.Facts.{Known};
-ghost use Rattle.positions.specs.Maps.{Narrow, map_list};
-ghost use Rattle.terms.specs.Extents.{Terms};
-ghost use Rattle.values.specs.Memory.{Points, RunOf, PrimitiveAt, TargetIs, AimIs, AimsAt};
-ghost use Rattle.memo.specs.Memo.{Remembers};
+ghost use Rattle.values.specs.Memory.{Points, PrimitiveAt, TargetIs, AimHolds, LastHolds, AimsAt};
 
 use memo::{forget, stands_known};
-use objects::{extent_of, home_of};
+use objects::{Home, home_of};
 use registers::map_of;
-use rules::limits::{CALLEES, SIZE_LIMIT};
+use registers::mapped::MappedState;
+use rules::limits::SIZE_LIMIT;
 use runs::in_untyped;
 use state::Machine;
 use state::total::memory_byte;
@@ -24,10 +20,10 @@ fn bytes(s: &[u8], x: u32) -> u32
     requires { x < 2 ^ 30 }
     ensures { result ≡ memory_number (view s.now).memory x 4 }
 {
-    let a = words::wide(memory_byte(s, x));
-    let b = words::wide(memory_byte(s, x + 1));
-    let c = words::wide(memory_byte(s, x + 2));
-    let d = words::wide(memory_byte(s, x + 3));
+    let a = u32::from(memory_byte(s, x));
+    let b = u32::from(memory_byte(s, x + 1));
+    let c = u32::from(memory_byte(s, x + 2));
+    let d = u32::from(memory_byte(s, x + 3));
     a + b * 256 + c * 65536 + d * 16777216
 }
 
@@ -42,191 +38,127 @@ fn word(s: &[u8], x: u32) -> u32
     bytes(s, x)
 }
 
-// Where the pointers of a term lead: into live region `region`, whose type is `entry` of record 8 under `map` (frame 0: it is not live), to
-// a run of term `run`, or, raw ones, to `run` untyped bytes.
+// Where the pointers of a term lead.
 #[derive(Clone, Copy)]
-pub struct Target {
-    pub region: u8,
-    pub frame: u32,
-    pub entry: usize,
-    pub map: [u8; 7],
-    pub size: usize,
-    pub raw: bool,
-    pub run: usize,
+pub enum Target {
+    // nowhere: their region is not live
+    Nowhere,
+    // to so many untyped bytes of live region `region`
+    Untyped {
+        region: u8,
+        home: Home,
+        many: usize,
+    },
+    // to a run of term `run` in live region `region`, whose objects have this size, under the map of its home's frame
+    Run {
+        region: u8,
+        home: Home,
+        map: [u8; 7],
+        size: usize,
+        run: usize,
+    },
 }
 
-// The map of the frame before this one, if there is one.
-fn map_before(s: &[u8], frame: u32) -> [u8; 7]
-    ensures { frame ≢ 0 → result ≡ map_list s.now (frame - 1) }
+// Where pointers of term t under `to` lead.
+pub fn target_of(mapped: &MappedState, to: [u8; 8], t: usize) -> Target
+    requires { Points mapped.now.typed.state.file.now t }
+    ensures { let s = mapped.now.typed.state in TargetIs s.file.now s.bytes.now s.frames to t result }
 {
-    if frame == 0 {
-        return [0, 0, 0, 0, 0, 0, 0];
+    let state = &mapped.typed.state;
+    let f = state.file;
+    let terms = mapped.typed.terms;
+    let region = live_of(&to, target_region(f, terms, t)).0;
+    let Some(home) = home_of(state, u32::from(region)) else {
+        return Target::Nowhere;
+    };
+    if form(f, terms, t) == 11 {
+        let many = number(f, terms, t);
+        return Target::Untyped { region, home, many };
     }
-    map_of(s, frame - 1)
-}
-
-// The term, or the number of bytes, that pointers of term t lead to.
-fn run_of(f: &[u8], terms: usize, t: usize, raw: bool) -> usize
-    requires { Terms f.now terms }
-    ensures { RunOf f.now t raw result }
-{
-    if raw {
-        return number(f, terms, t);
-    }
-    inner(f, terms, t)
-}
-
-// Of n frames: where pointers of term t under `to` lead.
-pub fn target_of(
-    f: &[u8],
-    starts: &[usize; CALLEES],
-    functions: usize,
-    terms: usize,
-    structs: usize,
-    tab: &[u64],
-    s: &[u8],
-    n: u32,
-    to: [u8; 8],
-    t: usize,
-) -> Target
-    requires fact_1 { Known f.now starts.now functions }
-    requires fact_2 { Table f.now terms structs tab.now }
-    requires fact_3 { Points f.now t }
-    ensures { TargetIs f.now s.now n to t result }
-{
-    let variable = target_region(f, terms, t);
-    let live = live_of(&to, variable);
-    let region = live.0;
-    let h = home_of(f, starts, functions, s, n, words::wide(region));
-    let frame = h.frame;
-    let map = map_before(s, frame);
-    let e = extent_of(terms, h.entry, tab, f, structs);
-    let raw = form(f, terms, t) == 11;
-    let run = run_of(f, terms, t, raw);
-    Target {
+    let map = map_of(state.bytes, home.frame);
+    let e = mapped.typed.extent_of(home.entry);
+    let run = inner(f, terms, t);
+    Target::Run {
         region,
-        frame,
-        entry: h.entry,
+        home,
         map,
         size: e.size,
-        raw,
         run,
     }
 }
 
-// Where the pointers that were looked at last lead, if there were any: those of term t under `to`.
+// Pointers of term t under `to`, and where they lead.
 #[derive(Clone, Copy)]
 pub struct Aim {
-    pub known: bool,
     pub t: usize,
     pub to: [u8; 8],
     pub target: Target,
 }
 
-// The aim of no pointer.
-pub fn no_aim() -> Aim
-    ensures { result.known ≡ false }
-{
-    let map = [0u8; 7];
-    let to = [0u8; 8];
-    let target = Target {
-        region: 0,
-        frame: 0,
-        entry: 0,
-        map,
-        size: 0,
-        raw: false,
-        run: 0,
-    };
-    Aim {
-        known: false,
-        t: 0,
-        to,
-        target,
-    }
-}
-
-// Where pointers of term t under `to` lead: that of the last aim, with what is remembered of it, if they are of the same type.
+// The aim of pointers of term t under `to`: the last one, with what is remembered of it, if they are of the same type.
 pub fn aim_at(
-    f: &[u8],
-    starts: &[usize; CALLEES],
-    functions: usize,
-    terms: usize,
-    structs: usize,
-    tab: &[u64],
-    s: &[u8],
-    n: u32,
+    mapped: &MappedState,
     to: [u8; 8],
     t: usize,
-    last: Aim,
+    last: Option<Aim>,
     memo: &mut [u8; SIZE_LIMIT],
 ) -> Aim
-    requires fact_1 { Known f.now starts.now functions }
-    requires fact_2 { Table f.now terms structs tab.now }
-    requires fact_3 { Points f.now t }
-    requires fact_4 { AimIs f.now s.now n last memo.old }
-    ensures { AimsAt f.now s.now n to t result memo.new }
+    requires points { Points mapped.now.typed.state.file.now t }
+    requires last { let s = mapped.now.typed.state in LastHolds s.file.now s.bytes.now s.frames last memo.old }
+    ensures { let s = mapped.now.typed.state in AimsAt s.file.now s.bytes.now s.frames to t result memo.new }
 {
-    let old = last.to;
-    let here = terms::place_of(terms, t);
-    let there = terms::place_of(terms, last.t);
-    if last.known & equality::same_places(f, there, &old, here, &to) {
-        return last;
+    if let Some(aim) = last {
+        let there = terms::place_of(mapped.typed.terms, aim.t);
+        let here = terms::place_of(mapped.typed.terms, t);
+        if equality::same_places(mapped.typed.state.file, there, &aim.to, here, &to) {
+            return aim;
+        }
     }
-    let target = target_of(f, starts, functions, terms, structs, tab, s, n, to, t);
+    let target = target_of(mapped, to, t);
     forget(memo);
-    Aim {
-        known: true,
-        t,
-        to,
-        target,
-    }
+    Aim { t, to, target }
 }
 
-// The pointer at address x, of term t under `to`: zero, or where its run stands, or its bytes lie.
-pub fn pointer_ok(
-    f: &[u8],
-    terms: usize,
-    structs: usize,
-    tab: &[u64],
-    s: &[u8],
-    n: u32,
-    to: [u8; 8],
-    t: usize,
-    g: Target,
-    x: u32,
-    memo: &mut [u8; SIZE_LIMIT],
-) -> bool
-    requires fact_1 { Table f.now terms structs tab.now }
-    requires fact_2 { Narrow f.now }
-    requires fact_3 { (TargetIs f.now s.now n to t g) × (x < 2 ^ 30) × (Remembers f.now g.entry g.map g.run to memo.old) }
-    ensures { (Tells result (PrimitiveAt f.now s.now n to t x)) × (Remembers f.now g.entry g.map g.run to memo.new) }
+// The pointer at address x: zero, or where its run stands, or its bytes lie.
+pub fn pointer_ok(mapped: &MappedState, aim: Aim, x: u32, memo: &mut [u8; SIZE_LIMIT]) -> bool
+    requires fact_1 { x < 2 ^ 30 }
+    requires fact_2 { let s = mapped.now.typed.state in AimHolds s.file.now s.bytes.now s.frames aim memo.old }
+    ensures { let s = mapped.now.typed.state in (Tells result (PrimitiveAt s.file.now s.bytes.now s.frames aim.to aim.t x)) × (AimHolds s.file.now s.bytes.now s.frames aim memo.new) }
 {
+    let s = mapped.typed.state.bytes;
     let v = word(s, x);
     if v == 0 {
         return true;
     }
-    if g.frame == 0 {
-        return false;
+    match aim.target {
+        Target::Nowhere => false,
+        Target::Untyped { region, home, many } => {
+            let owner = state::total::owner(s, v / Machine::PAGE_BYTES);
+            in_untyped(Live(region), owner, home.entry, v, many)
+        }
+        Target::Run {
+            region,
+            home,
+            map,
+            size,
+            run,
+        } => {
+            let owner = state::total::owner(s, v / Machine::PAGE_BYTES);
+            stands_known(
+                mapped.typed.state.file,
+                mapped.typed.terms,
+                mapped.typed.structs,
+                Live(region),
+                owner,
+                home.entry,
+                &map,
+                size,
+                v,
+                run,
+                &aim.to,
+                mapped.typed.extents,
+                memo,
+            )
+        }
     }
-    let owner = state::total::owner(s, v / Machine::PAGE_BYTES);
-    if g.raw {
-        return in_untyped(Live(g.region), owner, g.entry, v, g.run);
-    }
-    let map = g.map;
-    stands_known(
-        f,
-        terms,
-        structs,
-        Live(g.region),
-        owner,
-        g.entry,
-        &map,
-        g.size,
-        v,
-        g.run,
-        &to,
-        tab,
-        memo,
-    )
 }

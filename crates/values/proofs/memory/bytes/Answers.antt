@@ -4,4 +4,4 @@ use Rattle.values.specs.Memory.{word_is}
 use Rattle.values.proofs.memory.bytes.Goals as goal
 
 pub returns : goal.returns
-returns c = word_is _ _ (c.wide-a.ensures.0 ∙ c.memory_byte.ensures) (c.wide-b.ensures.0 ∙ c.memory_byte-2.ensures) (c.wide-c.ensures.0 ∙ c.memory_byte-3.ensures) (c.wide-d.ensures.0 ∙ c.memory_byte-4.ensures)
+returns c = word_is _ _ (c.from-a.ensures ∙ c.memory_byte.ensures) (c.from-b.ensures ∙ c.memory_byte-2.ensures) (c.from-c.ensures ∙ c.memory_byte-3.ensures) (c.from-d.ensures ∙ c.memory_byte-4.ensures)

@@ -1,41 +1,29 @@
 -- `values::memory::pointer_ok` meets its contract: zero, or where its run stands, or its bytes lie. Assumes nothing.
-use native.Mathlib.Omega.{arith}
+use Rattle.std.proofs.Common.{rules}
 use Rattle.stack.specs.Tells.{tells_yes}
-use Rattle.registers.specs.Value.{map_short, untyped_some, number_few}
-use Rattle.values.specs.Memory.{pointer_zero, pointer_dead, pointer_at, pointer_raw, stands_under}
-use borrow.Author.Rules.{rules}
+use Rattle.registers.specs.Value.{map_short, number_few}
+use Rattle.values.specs.Memory.{aim_points, to_none, to_bytes, to_run, remembered, aim_kept, pointer_zero, pointer_none, pointer_bytes, pointer_run}
 use Rattle.values.proofs.memory.pointer_ok.Goals as goal
 
 pub returns-then-v-eq0 : goal.returns-then-v-eq0
-returns-then-v-eq0 c =
-    let q = c.requires.fact_3 in
-    (tells_yes (pointer_zero q.0 c.word-v.ensures c.if-v-eq0.true), q.2)
+returns-then-v-eq0 c = (tells_yes (pointer_zero c.word-v.ensures (aim_points c.requires.fact_2) c.if-v-eq0.true), c.requires.fact_2)
 
-pub returns-then-g-eq0 : goal.returns-then-g-eq0
-returns-then-g-eq0 c =
-    let q = c.requires.fact_3 in
-    (pointer_dead q.0 c.word-v.ensures c.if-v-eq0.false c.if-g-eq0.true, q.2)
+pub returns-in-Nowhere : goal.returns-in-Nowhere
+returns-in-Nowhere c = (pointer_none c.word-v.ensures c.if-v-eq0.false (to_none c.requires.fact_2 c.in-Nowhere.is), c.requires.fact_2)
 
 pub in_untyped-requires : goal.in_untyped-requires
 in_untyped-requires c =
-    let a = c.args in
-    let q = c.requires in
-    number_few a.f.now a.terms a.t (λ i. omega (arith, c.type_inv.f i)) q.fact_1.counted.terms (q.fact_3.0.untyped c.if-g.true).1
+    let m = c.args.mapped.now in
+    number_few m.typed.state.file.now m.typed.terms c.args.aim.t m.typed.state.file_bytes m.typed.table.counted.terms (to_bytes c.requires.fact_2 c.in-Untyped.is).number
 
-pub returns-then-g : goal.returns-then-g
-returns-then-g c =
-    let q = c.requires in
-    let is = q.fact_3.0 in
-    (pointer_raw is c.word-v.ensures c.if-v-eq0.false c.if-g.true (untyped_some is.home q.fact_2 c.if-g-eq0.false c.owner-owner.ensures c.in_untyped.ensures), q.fact_3.2)
+pub returns-in-Untyped : goal.returns-in-Untyped
+returns-in-Untyped c = (pointer_bytes c.word-v.ensures c.args.mapped.now.narrow c.if-v-eq0.false (to_bytes c.requires.fact_2 c.in-Untyped.is) c.owner-owner.ensures c.in_untyped.ensures, c.requires.fact_2)
 
 pub stands_known-requires : goal.stands_known-requires
 stands_known-requires c =
-    let q = c.requires in
-    record { fact_1 = (q.fact_1, map_short _ _ (q.fact_3.0.map c.if-g-eq0.false), search rules, q.fact_3.0.size); fact_2 = q.fact_3.2 }
+    let w = to_run c.requires.fact_2 c.in-Run.is in
+    record { fact_1 = (c.args.mapped.now.typed.table, map_short _ _ w.map_is, search rules, w.size); fact_2 = remembered c.requires.fact_2 c.in-Run.is }
 
-pub returns : goal.returns
-returns c =
-    let q = c.requires in
-    let is = q.fact_3.0 in
-    let d = c.if-g-eq0.false in
-    (pointer_at is c.word-v.ensures c.if-v-eq0.false c.if-g.false (stands_under is.home c.args.g.run c.args.to q.fact_2 d (is.map d) c.owner-owner.ensures c.stands_known.ensures.0), c.stands_known.ensures.1)
+pub returns-in-Run : goal.returns-in-Run
+returns-in-Run c =
+    (pointer_run c.word-v.ensures c.args.mapped.now.narrow c.if-v-eq0.false (to_run c.requires.fact_2 c.in-Run.is) c.owner-owner-in-Run.ensures c.stands_known.ensures.0, aim_kept c.requires.fact_2 c.in-Run.is c.stands_known.ensures.1)
