@@ -16,6 +16,7 @@ pub mod pages;
 
 use marks::ends_ok;
 use objects::typed::TypedState;
+use pages::primitives_ok;
 use registers::mapped::MappedState;
 use rules::limits::CALLEES;
 use shape::shape_ok;
@@ -43,21 +44,12 @@ pub fn passes<'a>(
         bytes: s,
         frames: u32::from(state::total::frames(s)),
     };
-    if !shape_ok(&state) {
-        return false;
-    }
     let typed = TypedState {
         state,
         terms,
         structs,
         extents: tab,
     };
-    if !ends_ok(&typed) {
-        return false;
-    }
     let mapped = MappedState { typed };
-    if !mapped.registers_ok() {
-        return false;
-    }
-    crate::pages::primitives_ok(&mapped)
+    shape_ok(&state) && ends_ok(&typed) && mapped.registers_ok() && primitives_ok(&mapped)
 }

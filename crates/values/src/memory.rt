@@ -20,11 +20,12 @@ fn bytes(s: &[u8], x: u32) -> u32
     requires { x < 2 ^ 30 }
     ensures { result ≡ memory_number (view s.now).memory x 4 }
 {
-    let a = u32::from(memory_byte(s, x));
-    let b = u32::from(memory_byte(s, x + 1));
-    let c = u32::from(memory_byte(s, x + 2));
-    let d = u32::from(memory_byte(s, x + 3));
-    a + b * 256 + c * 65536 + d * 16777216
+    u32::from_le_bytes([
+        memory_byte(s, x),
+        memory_byte(s, x + 1),
+        memory_byte(s, x + 2),
+        memory_byte(s, x + 3),
+    ])
 }
 
 // The four bytes from address x on: one load but at the end of the memory.
@@ -121,8 +122,8 @@ pub fn aim_at(
 
 // The pointer at address x: zero, or where its run stands, or its bytes lie.
 pub fn pointer_ok(mapped: &MappedState, aim: Aim, x: u32, memo: &mut [u8; SIZE_LIMIT]) -> bool
-    requires fact_1 { x < 2 ^ 30 }
-    requires fact_2 { let s = mapped.now.typed.state in AimHolds s.file.now s.bytes.now s.frames aim memo.old }
+    requires address { x < 2 ^ 30 }
+    requires holds { let s = mapped.now.typed.state in AimHolds s.file.now s.bytes.now s.frames aim memo.old }
     ensures { let s = mapped.now.typed.state in (Tells result (PrimitiveAt s.file.now s.bytes.now s.frames aim.to aim.t x)) × (AimHolds s.file.now s.bytes.now s.frames aim memo.new) }
 {
     let s = mapped.typed.state.bytes;

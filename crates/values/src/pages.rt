@@ -47,8 +47,8 @@ fn place_ok(
     j: usize,
     memo: &mut [u8; SIZE_LIMIT],
 ) -> bool
-    requires fact_1 { (p < pages) × (d ≤ size_limit) × (size * suc j ≤ page_bytes) }
-    requires fact_2 { let s = mapped.now.typed.state in AimHolds s.file.now s.bytes.now s.frames aim memo.old }
+    requires within { (p < pages) × (d ≤ size_limit) × (size * suc j ≤ page_bytes) }
+    requires holds { let s = mapped.now.typed.state in AimHolds s.file.now s.bytes.now s.frames aim memo.old }
     ensures { let s = mapped.now.typed.state in (Tells result (PlaceOk s.file.now s.bytes.now s.frames p size aim.to aim.t d j)) × (AimHolds s.file.now s.bytes.now s.frames aim memo.new) }
 {
     let x = Machine::PAGE_BYTES * p + (size * j + d) as u32;
@@ -63,8 +63,8 @@ fn places_ok(
     aim: Aim,
     memo: &mut [u8; SIZE_LIMIT],
 ) -> bool
-    requires fact_1 { (p < pages) × (d ≤ size_limit) }
-    requires fact_2 { let s = mapped.now.typed.state in AimHolds s.file.now s.bytes.now s.frames aim memo.old }
+    requires within { (p < pages) × (d ≤ size_limit) }
+    requires holds { let s = mapped.now.typed.state in AimHolds s.file.now s.bytes.now s.frames aim memo.old }
     ensures { let s = mapped.now.typed.state in (Tells result ((j : ℕ) → j < page_bytes → PlaceOk s.file.now s.bytes.now s.frames p size aim.to aim.t d j)) × (AimHolds s.file.now s.bytes.now s.frames aim memo.new) }
 {
     for j in 0..places_in(size) {
@@ -85,8 +85,8 @@ fn owned_places(
     q: u32,
     memo: &mut [u8; SIZE_LIMIT],
 ) -> bool
-    requires fact_1 { (q < pages) × (d ≤ size_limit) }
-    requires fact_2 { let s = mapped.now.typed.state in AimHolds s.file.now s.bytes.now s.frames aim memo.old }
+    requires within { (q < pages) × (d ≤ size_limit) }
+    requires holds { let s = mapped.now.typed.state in AimHolds s.file.now s.bytes.now s.frames aim memo.old }
     ensures { let s = mapped.now.typed.state in (Tells result (OwnedPlaces s.file.now s.bytes.now s.frames owner size aim.to aim.t d q)) × (AimHolds s.file.now s.bytes.now s.frames aim memo.new) }
 {
     if state::total::owner(mapped.typed.state.bytes, q) != owner {
@@ -104,8 +104,8 @@ fn all_places(
     aim: Aim,
     memo: &mut [u8; SIZE_LIMIT],
 ) -> bool
-    requires fact_1 { d ≤ size_limit }
-    requires fact_2 { let s = mapped.now.typed.state in AimHolds s.file.now s.bytes.now s.frames aim memo.old }
+    requires within { d ≤ size_limit }
+    requires holds { let s = mapped.now.typed.state in AimHolds s.file.now s.bytes.now s.frames aim memo.old }
     ensures { let s = mapped.now.typed.state in (Tells result ((q : ℕ) → q < pages → OwnedPlaces s.file.now s.bytes.now s.frames owner size aim.to aim.t d q)) × (AimHolds s.file.now s.bytes.now s.frames aim memo.new) }
 {
     for q in 0..Machine::PAGES {
@@ -126,8 +126,8 @@ fn position_ok(
     last: &mut Option<Aim>,
     memo: &mut [u8; SIZE_LIMIT],
 ) -> bool
-    requires fact_1 { let s = mapped.now.typed.state in (p < pages) × (i < o.now.count) × (ObjectsAre s.file.now s.bytes.now s.frames p mapped.now.typed.terms mapped.now.typed.structs o.now) }
-    requires fact_2 { let s = mapped.now.typed.state in LastHolds s.file.now s.bytes.now s.frames last.old memo.old }
+    requires within { let s = mapped.now.typed.state in (p < pages) × (i < o.now.count) × (ObjectsAre s.file.now s.bytes.now s.frames p mapped.now.typed.terms mapped.now.typed.structs o.now) }
+    requires last { let s = mapped.now.typed.state in LastHolds s.file.now s.bytes.now s.frames last.old memo.old }
     ensures { let s = mapped.now.typed.state in (Tells result (OwnedPosition s.file.now s.bytes.now s.frames p i)) × (LastHolds s.file.now s.bytes.now s.frames last.new memo.new) }
 {
     let f = mapped.typed.state.file;

@@ -4,4 +4,4 @@ use Rattle.values.specs.Memory.{word_is}
 use Rattle.values.proofs.memory.bytes.Goals as goal
 
 pub returns : goal.returns
-returns c = word_is _ _ (c.from-a.ensures ∙ c.memory_byte.ensures) (c.from-b.ensures ∙ c.memory_byte-2.ensures) (c.from-c.ensures ∙ c.memory_byte-3.ensures) (c.from-d.ensures ∙ c.memory_byte-4.ensures)
+returns c = c.from_le_bytes.ensures ∙ word_is _ _ c.memory_byte.ensures c.memory_byte-2.ensures c.memory_byte-3.ensures c.memory_byte-4.ensures

@@ -4,7 +4,7 @@ use Rattle.stack.specs.Tells.{scan_none, scan_more, scan_broken, scan_ended}
 use Rattle.values.proofs.pages.all_places.Goals as goal
 
 pub loop-q-init : goal.loop-q-init
-loop-q-init c = record { right = scan_none _; holds = c.requires.fact_2 }
+loop-q-init c = record { right = scan_none _; holds = c.requires.holds }
 
 pub returns-then-not-owned_places : goal.returns-then-not-owned_places
 returns-then-not-owned_places c = (scan_broken _ _ _ (omega arith) c.owned_places.ensures.0 (ap not c.if-not-owned_places.true), c.owned_places.ensures.1)

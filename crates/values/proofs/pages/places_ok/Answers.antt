@@ -5,10 +5,10 @@ use Rattle.values.specs.Pages.{places_ended}
 use Rattle.values.proofs.pages.places_ok.Goals as goal
 
 pub loop-j-init : goal.loop-j-init
-loop-j-init c = record { right = scan_none _; holds = c.requires.fact_2 }
+loop-j-init c = record { right = scan_none _; holds = c.requires.holds }
 
 pub place_ok-requires : goal.place_ok-requires
-place_ok-requires c = record { fact_1 = (c.requires.fact_1.0, c.requires.fact_1.1, c.places_in-j-end.ensures.inside c.loop-j.j c.loop-j-test.true); fact_2 = c.loop-j.invariant.holds }
+place_ok-requires c = record { within = (c.requires.within.0, c.requires.within.1, c.places_in-j-end.ensures.inside c.loop-j.j c.loop-j-test.true); holds = c.loop-j.invariant.holds }
 
 pub returns-then-not-place_ok : goal.returns-then-not-place_ok
 returns-then-not-place_ok c = (scan_broken _ _ _ (omega (arith, c.places_in-j-end.ensures.few)) c.place_ok.ensures.0 (ap not c.if-not-place_ok.true), c.place_ok.ensures.1)

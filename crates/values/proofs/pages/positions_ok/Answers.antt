@@ -7,7 +7,7 @@ pub loop-i-init : goal.loop-i-init
 loop-i-init c = record { right = scan_none _; last = tt }
 
 pub position_ok-requires : goal.position_ok-requires
-position_ok-requires c = record { fact_1 = (c.requires.0, c.loop-i-test.true, c.requires.1); fact_2 = c.loop-i.invariant.last }
+position_ok-requires c = record { within = (c.requires.0, c.loop-i-test.true, c.requires.1); last = c.loop-i.invariant.last }
 
 pub returns-then-not-position_ok : goal.returns-then-not-position_ok
 returns-then-not-position_ok c = scan_broken _ _ _ (omega arith) c.position_ok.ensures.0 (ap not c.if-not-position_ok.true)
