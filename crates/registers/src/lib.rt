@@ -58,7 +58,7 @@ impl MappedState<'_> {
         let q = map_of(state.bytes, k);
         let owner = state::total::owner(state.bytes, x / Machine::PAGE_BYTES);
         let e = typed.extent_of(home.entry);
-        let mut memo = [0u8; SIZE_LIMIT];
+        let mut memo = [None; SIZE_LIMIT];
         stands_known(
             state.file,
             typed.terms,

@@ -1,7 +1,7 @@
 -- A primitive in the pages: the number that its bytes hold, as a value of a term under regions given as bytes. Assumes nothing.
 use Rattle.std.proofs.Math.Path.{◌≡◌, refl}
 use Rattle.std.proofs.Common.{sym, ap, subst, ◌∙◌, inl, inr, ⊎_elim, pow-suc, arith}
-use Rattle.std.specs.Prelude.{Option, None, Some, Bool, true, false, ◌≢◌, ◌⊎◌, ℕ, zero, suc, ◌+◌, ◌*◌, ◌^◌, ◌/◌, ◌<◌}
+use Rattle.std.specs.Prelude.{List, Option, None, Some, Bool, true, false, ◌≢◌, ◌⊎◌, ℕ, zero, suc, ◌+◌, ◌*◌, ◌^◌, ◌/◌, ◌<◌}
 use Rattle.words.specs.Bytes.{Bytes, AllBytes}
 use Rattle.rules.specs.Limits.{page_bytes}
 use Rattle.rules.specs.Types.{variable, live, Variable, Region, Tree, int, ptr, arr, struct, raw_ptr, bytes, form, number_of, inner, region_of, width, sub}
@@ -141,17 +141,17 @@ module _ {f s : Bytes} {n : ℕ} {to : Bytes} {t u r w : ℕ} (eu : u ≡ (regio
 
 -- ---- an aim, and what is remembered of its runs
 
-abbrev pub Remembered : Bytes → Bytes → Target → Bytes → Type 0
+abbrev pub Remembered : Bytes → Bytes → Target → List (Option Bool) → Type 0
 Remembered f to Nowhere m = Unit {0}
 Remembered f to (Untyped region h many) m = Unit {0}
 Remembered f to (Run region h map z run) m = Remembers f h.entry map run to m
 
 -- a is an aim of pointers, and m is what is remembered of it
-pub record AimHolds (f s : Bytes) (n : ℕ) (a : Aim) (m : Bytes) : Type 0 where
+pub record AimHolds (f s : Bytes) (n : ℕ) (a : Aim) (m : List (Option Bool)) : Type 0 where
   pub target : TargetIs f s n a.to a.t a.target
   pub remembers : Remembered f a.to a.target m
 
-module _ {f s : Bytes} {n : ℕ} {a : Aim} {m : Bytes} (holds : AimHolds f s n a m) where
+module _ {f s : Bytes} {n : ℕ} {a : Aim} {m : List (Option Bool)} (holds : AimHolds f s n a m) where
   pub to_none : a.target ≡ Nowhere → ToNone f s n a.to a.t
   to_none e = subst (λ (g : Target). TargetIs f s n a.to a.t g) e holds.target
 
@@ -174,7 +174,7 @@ module _ {f s : Bytes} {n : ℕ} {a : Aim} {m : Bytes} (holds : AimHolds f s n a
     pub remembered : Remembers f h.entry map run a.to m
     remembered = subst (λ (g : Target). Remembered f a.to g m) e holds.remembers
 
-    pub aim_kept : {k : Bytes} → Remembers f h.entry map run a.to k → AimHolds f s n a k
+    pub aim_kept : {k : List (Option Bool)} → Remembers f h.entry map run a.to k → AimHolds f s n a k
     aim_kept {k} w = record { target = holds.target; remembers = subst (λ (g : Target). Remembered f a.to g k) (sym e) w }
 
 -- ---- the pointer at an address
@@ -237,20 +237,20 @@ primitive_same {f} {s} {n} {x = x} e w =
     record { is = subst (λ (T : Tree live). Value (module_of f) (typing_of f s n) T (memory_number (view s).memory x (width T))) e w.is }
 
 -- the last aim, if there is one, with what is remembered of it
-abbrev pub LastHolds : Bytes → Bytes → ℕ → Option Aim → Bytes → Type 0
+abbrev pub LastHolds : Bytes → Bytes → ℕ → Option Aim → List (Option Bool) → Type 0
 LastHolds f s n None m = Unit {0}
 LastHolds f s n (Some a) m = AimHolds f s n a m
 
 -- the aim of pointers of term t under `to`
-pub record AimsAt (f s : Bytes) (n : ℕ) (to : Bytes) (t : ℕ) (a : Aim) (m : Bytes) : Type 0 where
+pub record AimsAt (f s : Bytes) (n : ℕ) (to : Bytes) (t : ℕ) (a : Aim) (m : List (Option Bool)) : Type 0 where
   pub holds : AimHolds f s n a m
   pub same : sub (under {k = live} a.to) ((module_of f).term a.t) ≡ sub (under to) ((module_of f).term t)
 
-pub aim_same : {f s : Bytes} {n : ℕ} {to : Bytes} {t : ℕ} {a : Aim} {m : Bytes} {terms x y : ℕ} {b : Bool} → AimHolds f s n a m → Terms f terms → x ≡ place_of terms a.t → y ≡ place_of terms t
+pub aim_same : {f s : Bytes} {n : ℕ} {to : Bytes} {t : ℕ} {a : Aim} {m : List (Option Bool)} {terms x y : ℕ} {b : Bool} → AimHolds f s n a m → Terms f terms → x ≡ place_of terms a.t → y ≡ place_of terms t
     → (b ≡ places_same variable f x a.to y to) × (b ≡ places_same live f x a.to y to) → b ≡ true → AimsAt f s n to t a m
 aim_same {f} {to = to} {t = t} {a = a} w terms ex ey e h = record { holds = w; same = same_tree live f a.t t a.to to terms ex ey (sym e.1 ∙ h) }
 
-pub aim_new : {f s : Bytes} {n : ℕ} {to : Bytes} {t : ℕ} {g : Target} {m : Bytes} → TargetIs f s n to t g → Forgotten m
+pub aim_new : {f s : Bytes} {n : ℕ} {to : Bytes} {t : ℕ} {g : Target} {m : List (Option Bool)} → TargetIs f s n to t g → Forgotten m
     → AimsAt f s n to t (record { t = t; to = to; target = g }) m
 aim_new {f} {to = to} {g = g} {m = m} is w = record { holds = record { target = is; remembers = go g }; same = refl }
   where

@@ -5,11 +5,10 @@ ghost use Rattle.rules.specs.State.{view, memory_number};
 ghost use Rattle.stack.specs.Tells.{Tells};
 ghost use Rattle.values.specs.Memory.{Points, PrimitiveAt, TargetIs, AimHolds, LastHolds, AimsAt};
 
-use memo::{forget, stands_known};
+use memo::{Memo, forget, stands_known};
 use objects::{Home, home_of};
 use registers::map_of;
 use registers::mapped::MappedState;
-use rules::limits::SIZE_LIMIT;
 use runs::in_untyped;
 use state::Machine;
 use state::total::memory_byte;
@@ -102,7 +101,7 @@ pub fn aim_at(
     to: [u8; 8],
     t: usize,
     last: Option<Aim>,
-    memo: &mut [u8; SIZE_LIMIT],
+    memo: &mut Memo,
 ) -> Aim
     requires points { Points mapped.now.typed.state.file.now t }
     requires last { let s = mapped.now.typed.state in LastHolds s.file.now s.bytes.now s.frames last memo.old }
@@ -121,7 +120,7 @@ pub fn aim_at(
 }
 
 // The pointer at address x: zero, or where its run stands, or its bytes lie.
-pub fn pointer_ok(mapped: &MappedState, aim: Aim, x: u32, memo: &mut [u8; SIZE_LIMIT]) -> bool
+pub fn pointer_ok(mapped: &MappedState, aim: Aim, x: u32, memo: &mut Memo) -> bool
     requires address { x < 2 ^ 30 }
     requires holds { let s = mapped.now.typed.state in AimHolds s.file.now s.bytes.now s.frames aim memo.old }
     ensures { let s = mapped.now.typed.state in (Tells result (PrimitiveAt s.file.now s.bytes.now s.frames aim.to aim.t x)) × (AimHolds s.file.now s.bytes.now s.frames aim memo.new) }

@@ -13,6 +13,7 @@ ghost use Rattle.values.specs.Pages.{PlaceOk, OwnedPlaces, OwnedPosition, Apart,
 
 use crate::memory::{Aim, aim_at, pointer_ok};
 use marks::places_in;
+use memo::Memo;
 use objects::{Home, home_of};
 use registers::map_of;
 use registers::mapped::MappedState;
@@ -45,7 +46,7 @@ fn place_ok(
     d: usize,
     aim: Aim,
     j: usize,
-    memo: &mut [u8; SIZE_LIMIT],
+    memo: &mut Memo,
 ) -> bool
     requires within { (p < pages) × (d ≤ size_limit) × (size * suc j ≤ page_bytes) }
     requires holds { let s = mapped.now.typed.state in AimHolds s.file.now s.bytes.now s.frames aim memo.old }
@@ -61,7 +62,7 @@ fn places_ok(
     size: usize,
     d: usize,
     aim: Aim,
-    memo: &mut [u8; SIZE_LIMIT],
+    memo: &mut Memo,
 ) -> bool
     requires within { (p < pages) × (d ≤ size_limit) }
     requires holds { let s = mapped.now.typed.state in AimHolds s.file.now s.bytes.now s.frames aim memo.old }
@@ -83,7 +84,7 @@ fn owned_places(
     d: usize,
     aim: Aim,
     q: u32,
-    memo: &mut [u8; SIZE_LIMIT],
+    memo: &mut Memo,
 ) -> bool
     requires within { (q < pages) × (d ≤ size_limit) }
     requires holds { let s = mapped.now.typed.state in AimHolds s.file.now s.bytes.now s.frames aim memo.old }
@@ -102,7 +103,7 @@ fn all_places(
     size: usize,
     d: usize,
     aim: Aim,
-    memo: &mut [u8; SIZE_LIMIT],
+    memo: &mut Memo,
 ) -> bool
     requires within { d ≤ size_limit }
     requires holds { let s = mapped.now.typed.state in AimHolds s.file.now s.bytes.now s.frames aim memo.old }
@@ -124,7 +125,7 @@ fn position_ok(
     o: &Objects,
     i: usize,
     last: &mut Option<Aim>,
-    memo: &mut [u8; SIZE_LIMIT],
+    memo: &mut Memo,
 ) -> bool
     requires within { let s = mapped.now.typed.state in (p < pages) × (i < o.now.count) × (ObjectsAre s.file.now s.bytes.now s.frames p mapped.now.typed.terms mapped.now.typed.structs o.now) }
     requires last { let s = mapped.now.typed.state in LastHolds s.file.now s.bytes.now s.frames last.old memo.old }
@@ -155,7 +156,7 @@ fn positions_ok(mapped: &MappedState, p: u32, o: &Objects) -> bool
     requires { let s = mapped.now.typed.state in (p < pages) × (ObjectsAre s.file.now s.bytes.now s.frames p mapped.now.typed.terms mapped.now.typed.structs o.now) }
     ensures { let s = mapped.now.typed.state in Tells result ((i : ℕ) → i < o.now.count → OwnedPosition s.file.now s.bytes.now s.frames p i) }
 {
-    let mut memo = [0u8; SIZE_LIMIT];
+    let mut memo = [None; SIZE_LIMIT];
     let mut last = None;
     for i in 0..o.count {
         if !position_ok(mapped, p, o, i, &mut last, &mut memo) {
