@@ -163,31 +163,10 @@ impl Known<'_> {
         let [a, b, c, d] = classes(x.kind);
         let callee = self.callee_fits(x);
         let regions = self.region_bytes_fit(w, x);
-        let a = operand_fits(
-            a,
-            usize::from(x.a),
-            w.registers,
-            w.instructions,
-            false,
-            false,
-        );
-        let b = operand_fits(
-            b,
-            usize::from(x.b),
-            w.registers,
-            w.instructions,
-            callee,
-            false,
-        );
-        let c = operand_fits(
-            c,
-            usize::from(x.c),
-            w.registers,
-            w.instructions,
-            false,
-            false,
-        );
-        let d = operand_fits(d, x.d as usize, w.registers, w.instructions, false, regions);
+        let a = operand_fits(a, usize::from(x.a), w, false, false);
+        let b = operand_fits(b, usize::from(x.b), w, callee, false);
+        let c = operand_fits(c, usize::from(x.c), w, false, false);
+        let d = operand_fits(d, x.d as usize, w, false, regions);
         is_instruction(x.kind) & ((a & b) & (c & d))
     }
 
@@ -198,11 +177,8 @@ impl Known<'_> {
         let g = w.callee;
         (x.kind == ARGUMENTS)
             & if g < self.end.functions {
-                seven(
-                    x,
-                    parameters_of(head_of(self.f, self.starts, g)),
-                    w.registers,
-                )
+                let h = head_of(self.f, self.starts, g);
+                seven(x, parameters_of(h), w.registers)
             } else {
                 seven_loose(x, w.registers)
             }

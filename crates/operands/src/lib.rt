@@ -10,8 +10,8 @@ ghost use Rattle.rules.specs.Records.{slot, four, seven, loose, four_loose, seve
 ghost use Rattle.operands.specs.Classes.{number_of, numbers_of};
 ghost use Rattle.operands.specs.Limits.{limits_of, limit_in, below_limits};
 
-use rules::Record;
 use rules::limits::FIRST_ARITHMETIC;
+use rules::{Record, Walk};
 use walk::file::entries;
 
 // The classes of an operand, in the order of the definition's numbers.
@@ -71,21 +71,21 @@ pub fn classes(kind: u8) -> [Class; OPERANDS]
     }
 }
 
+// Operand v of a class, in the function that the walk is in.
 pub fn operand_fits(
     class: Class,
     v: usize,
-    registers: usize,
-    instructions: usize,
+    w: Walk,
     function_there: bool,
     regions_right: bool,
 ) -> bool
-    ensures { result ≡ operand_fits (number_of class) v registers instructions function_there regions_right }
+    ensures { result ≡ operand_fits (number_of class) v w.registers w.instructions function_there regions_right }
 {
     match class {
         Unused => v == 0,
-        Register => v < registers,
+        Register => v < w.registers,
         Function => function_there,
-        Target => v < instructions,
+        Target => v < w.instructions,
         Operation => v <= LAST_OPERATION,
         Any => true,
         Regions => regions_right,

@@ -9,6 +9,6 @@ use Rattle.fits.proofs.Known.arguments_fit.Goals.{then-g-self, else-g-self}
 pub returns : goal.returns
 unfolding arguments_fit
 returns c = elim c.if-g-self.branch [
-  | then-g-self w ↦ rw (ap (λ (v : Walk). v.functions) (sym c.args.self.now.end_right), lt-ltb _ _ w.if-g-self.true, w.result-is, w.seven.ensures, w.parameters_of.ensures, w.head_of.ensures)
+  | then-g-self w ↦ rw (ap (λ (v : Walk). v.functions) (sym c.args.self.now.end_right), lt-ltb _ _ w.if-g-self.true, w.result-is, w.seven.ensures, w.parameters_of.ensures, w.head_of-h.ensures)
   | else-g-self w ↦ rw (ap (λ (v : Walk). v.functions) (sym c.args.self.now.end_right), le-ltb _ _ w.if-g-self.false, w.result-is, w.seven_loose.ensures)
 ]
