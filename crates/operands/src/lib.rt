@@ -38,25 +38,25 @@ pub const OPERANDS: usize = 4;
 const KINDS: usize = 19;
 
 const CLASSES: [[Class; OPERANDS]; KINDS] = [
-    [Register, Unused, Unused, Any],
-    [Register, Register, Unused, Unused],
-    [Register, Register, Register, Operation],
-    [Register, Register, Unused, Unused],
-    [Register, Register, Unused, Unused],
-    [Register, Register, Unused, Unused],
-    [Register, Register, Unused, Unused],
-    [Register, Register, Unused, Any],
-    [Register, Register, Register, Unused],
-    [Register, Register, Unused, Unused],
-    [Register, Register, Unused, Unused],
-    [Register, Unused, Unused, Unused],
-    [Register, Unused, Unused, Unused],
-    [Register, Unused, Register, Unused],
-    [Unused, Register, Unused, Unused],
-    [Unused, Unused, Unused, Target],
-    [Register, Unused, Unused, Target],
-    [Register, Function, Unused, Regions],
-    [Register, Unused, Unused, Unused],
+    [Register, Unused, Unused, Any], // 16
+    [Register, Register, Unused, Unused], // 17
+    [Register, Register, Register, Operation], // 18
+    [Register, Register, Unused, Unused], // 19
+    [Register, Register, Unused, Unused], // 20
+    [Register, Register, Unused, Unused], // 21
+    [Register, Register, Unused, Unused], // 22
+    [Register, Register, Unused, Any], // 23
+    [Register, Register, Register, Unused], // 24
+    [Register, Register, Unused, Unused], // 25
+    [Register, Register, Unused, Unused], // 26
+    [Register, Unused, Unused, Unused], // 27
+    [Register, Unused, Unused, Unused], // 28
+    [Register, Unused, Register, Unused], // 29
+    [Unused, Register, Unused, Unused], // 30
+    [Unused, Unused, Unused, Target], // 31
+    [Register, Unused, Unused, Target], // 32
+    [Register, Function, Unused, Regions], // 33
+    [Register, Unused, Unused, Unused], // 34
 ];
 
 // The classes of a kind's operands. (A kind below 16 has those of 16, as in the definition; above 34 all are unused.)
