@@ -1,5 +1,5 @@
 -- Terms written out: an entry, one layout after another, copies and fields. Assumes nothing.
-use Rattle.std.specs.Prelude.{◌≡◌, ◌≢◌, List, [], ℕ, zero, suc, ◌+◌, ◌-◌, ◌*◌, ◌/◌, ◌%◌, ◌≤◌, ◌<◌, get_or, set, replicate}
+use Rattle.std.specs.Prelude.{◌≡◌, ◌≢◌, List, ℕ, zero, suc, ◌+◌, ◌-◌, ◌*◌, ◌≤◌, ◌<◌, set, replicate}
 use Rattle.std.proofs.Math.Path.{refl, ap}
 use Rattle.std.proofs.Common.{sym, ◌∙◌, subst, ⊎_elim, add_comm, mul-le-mul_right, arith, length-set, get_or-set_same, get_or-set_other}
 use Rattle.std.proofs.Math.Decide.{ℕ_discrete}
@@ -22,54 +22,46 @@ use Rattle.flattening.specs.Written.{entry_of, Room, Written, Kept, Shifted, Pas
 
 -- ---- entries
 
-pub room_fresh : (x : Bytes) → Room (replicate 288 x) (replicate 288 0)
-room_fresh x = record { subs_are = length-replicate 288 x; spots_are = length-replicate {A = ℕ} 288 0 }
+pub room_fresh : (r : Primitive) → Room (replicate 288 r)
+room_fresh r = record { are = length-replicate {A = Primitive} 288 r }
 
-module _ {subs : List Bytes} {spots : List ℕ} (room : Room subs spots) (at place : ℕ) (to : Bytes) (off : ℕ) (h : at < 288) (l : off ≤ 256) where
-  pub entry_put : entry_of (set subs at to) (set spots at (off + 1024 * place)) at ≡ record { off = off; place = place; to = to }
-  entry_put =
-      let s : get_or (set spots at (off + 1024 * place)) at 0 ≡ off + 1024 * place = get_or-set_same spots at (off + 1024 * place) 0 (omega (arith, room.spots_are)) in
-      let b : get_or (set subs at to) at [] ≡ to = get_or-set_same subs at to [] (omega (arith, room.subs_are)) in
-      let m : (off + 1024 * place) % 1024 ≡ off = omega arith in
-      let d : (off + 1024 * place) / 1024 ≡ place = omega arith in
-      rw (s, b, m, d)
+module _ {entries : List Primitive} (room : Room entries) (at : ℕ) (r : Primitive) (h : at < 288) where
+  pub entry_put : entry_of (set entries at r) at ≡ r
+  entry_put = get_or-set_same entries at r _ (omega (arith, room.are))
 
-  pub kept_put : Kept subs spots (set subs at to) (set spots at (off + 1024 * place)) at
+  pub kept_put : Kept entries (set entries at r) at
   kept_put = record {
-    room = record { subs_are = length-set subs at to ∙ room.subs_are; spots_are = length-set spots at (off + 1024 * place) ∙ room.spots_are };
-    below = λ j m.
-        let s : get_or (set spots at (off + 1024 * place)) j 0 ≡ get_or spots j 0 = get_or-set_other spots at j (off + 1024 * place) 0 (λ e. omega arith) in
-        let b : get_or (set subs at to) j [] ≡ get_or subs j [] = get_or-set_other subs at j to [] (λ e. omega arith) in
-        rw (s, b);
+    room = record { are = length-set entries at r ∙ room.are };
+    below = λ j m. get_or-set_other entries at j r _ (λ e. omega arith);
   }
 
-  written_put : (f : Bytes) (k w : ℕ) → place ≤ 256 → term_layout f k place ≡ single w (tree_at f place)
-      → Written f (set subs at to) (set spots at (off + 1024 * place)) at to off (term_layout f k place)
+  pub others_put : (j : ℕ) → at ≢ j → entry_of (set entries at r) j ≡ entry_of entries j
+  others_put j d = get_or-set_other entries at j r _ (λ e. d (sym e))
+
+  pub put_memo : at < 256 → (j : ℕ) → 256 ≤ j → entry_of (set entries at r) j ≡ entry_of entries j
+  put_memo low j m = others_put j (λ z. omega arith)
+
+-- an integer or a pointer is one entry
+module _ {entries : List Primitive} (room : Room entries) (at place : ℕ) (to : Bytes) (off : ℕ) (h : at < 288) where
+  abbrev one : Primitive
+  one = record { off = off; place = place; to = to }
+
+  written_put : (f : Bytes) (k w : ℕ) → place ≤ 256 → term_layout f k place ≡ single w (tree_at f place) → Written f (set entries at one) at to off (term_layout f k place)
   written_put f k w low is = record {
     each = λ i m.
         let e : at + i ≡ at = omega (arith, m, ap (λ (L : Layout variable). count L) is) in
-        subst (λ (r : Primitive). Found f r to off (nth (term_layout f k place) i)) (sym (ap (entry_of (set subs at to) (set spots at (off + 1024 * place))) e ∙ entry_put)) (found_single f k place off i to w is m);
+        subst (λ (r : Primitive). Found f r to off (nth (term_layout f k place) i)) (sym (ap (entry_of (set entries at one)) e ∙ entry_put room at one h)) (found_single f k place off i to w is m);
     near = λ i m.
         let e : at + i ≡ at = omega (arith, m, ap (λ (L : Layout variable). count L) is) in
-        subst (λ (r : Primitive). (r.off ≤ off + (term_layout f k place).size) × (r.place ≤ 256)) (sym (ap (entry_of (set subs at to) (set spots at (off + 1024 * place))) e ∙ entry_put)) (omega arith, low);
+        subst (λ (r : Primitive). (r.off ≤ off + (term_layout f k place).size) × (r.place ≤ 256)) (sym (ap (entry_of (set entries at one)) e ∙ entry_put room at one h)) (omega arith, low);
   }
 
-  pub others_put : (j : ℕ) → at ≢ j → entry_of (set subs at to) (set spots at (off + 1024 * place)) j ≡ entry_of subs spots j
-  others_put j d =
-      let s : get_or (set spots at (off + 1024 * place)) j 0 ≡ get_or spots j 0 = get_or-set_other spots at j (off + 1024 * place) 0 (λ e. d (sym e)) in
-      let b : get_or (set subs at to) j [] ≡ get_or subs j [] = get_or-set_other subs at j to [] (λ e. d (sym e)) in
-      rw (s, b)
-
-  pub put_memo : {subs' : List Bytes} {spots' : List ℕ} → at < 256 → subs' ≡ set subs at to → spots' ≡ set spots at (off + 1024 * place) → (j : ℕ) → 256 ≤ j → entry_of subs' spots' j ≡ entry_of subs spots j
-  put_memo low e g j m = rw (e, g) (others_put j (λ z. omega arith))
-
-  -- an integer or a pointer is one entry
-  pub put_single : (f : Bytes) (k w : ℕ) {subs' : List Bytes} {spots' : List ℕ} → place ≤ 256 → term_layout f k place ≡ single w (tree_at f place)
-      → subs' ≡ set subs at to → spots' ≡ set spots at (off + 1024 * place) → (Written f subs' spots' at to off (term_layout f k place)) × (Kept subs spots subs' spots' at)
-  put_single f k w low is e g = rw (e, g) (written_put f k w low is, kept_put)
+  pub put_single : (f : Bytes) (k w : ℕ) → place ≤ 256 → term_layout f k place ≡ single w (tree_at f place)
+      → (Written f (set entries at one) at to off (term_layout f k place)) × (Kept entries (set entries at one) at)
+  put_single f k w low is = (written_put f k w low is, kept_put room at one h)
 
 -- an integer is the same under every substitution
-pub written_int : {f : Bytes} {subs : List Bytes} {spots : List ℕ} {at : ℕ} {to to' : Bytes} {off : ℕ} (k p w : ℕ) → head_of f p ≡ Int w → Written f subs spots at to off (term_layout f k p) → Written f subs spots at to' off (term_layout f k p)
+pub written_int : {f : Bytes} {entries : List Primitive} {at : ℕ} {to to' : Bytes} {off : ℕ} (k p w : ℕ) → head_of f p ≡ Int w → Written f entries at to off (term_layout f k p) → Written f entries at to' off (term_layout f k p)
 written_int {f} {to = to} {to' = to'} {off = off} k p w e h = record { each = λ i m j. h.each i m j ∙ ap (moved off) (either j i m); near = h.near }
   where
     is : term_layout f k p ≡ single w (int w)
@@ -78,21 +70,21 @@ written_int {f} {to = to} {to' = to'} {off = off} k p w e h = record { each = λ
     either : (j : RegionKind) (i : ℕ) → i < count (term_layout f k p) → placed_in (under {k = j} to) (nth (term_layout f k p) i) ≡ placed_in (under to') (nth (term_layout f k p) i)
     either j i m = unfold sub in let z : i ≡ 0 = omega (arith, m, ap (λ (L : Layout variable). count L) is) in rw (is, z) refl
 
-pub written_none : {f : Bytes} {subs : List Bytes} {spots : List ℕ} {at : ℕ} {to : Bytes} {off : ℕ} (L : Layout variable) → count L ≡ 0 → Written f subs spots at to off L
+pub written_none : {f : Bytes} {entries : List Primitive} {at : ℕ} {to : Bytes} {off : ℕ} (L : Layout variable) → count L ≡ 0 → Written f entries at to off L
 written_none L e = record { each = λ i m. absurd (omega arith); near = λ i m. absurd (omega arith) }
 
-pub kept_none : {subs : List Bytes} {spots : List ℕ} (at : ℕ) → Room subs spots → Kept subs spots subs spots at
+pub kept_none : {entries : List Primitive} (at : ℕ) → Room entries → Kept entries entries at
 kept_none at room = record { room = room; below = λ j m. refl }
 
-pub written_same : {f : Bytes} {subs : List Bytes} {spots : List ℕ} {at : ℕ} {to : Bytes} {off : ℕ} {L M : Layout variable} → L ≡ M → Written f subs spots at to off L → Written f subs spots at to off M
-written_same {f} {subs} {spots} {at} {to} {off} e w = subst (λ (L : Layout variable). Written f subs spots at to off L) e w
+pub written_same : {f : Bytes} {entries : List Primitive} {at : ℕ} {to : Bytes} {off : ℕ} {L M : Layout variable} → L ≡ M → Written f entries at to off L → Written f entries at to off M
+written_same {f} {entries} {at} {to} {off} e w = subst (λ (L : Layout variable). Written f entries at to off L) e w
 
 -- what is written later keeps what was written before
-module _ {subs subs' : List Bytes} {spots spots' : List ℕ} {at' : ℕ} (then : Kept subs spots subs' spots' at') where
-  pub kept_kept : {subs₀ : List Bytes} {spots₀ : List ℕ} (at : ℕ) → at ≤ at' → Kept subs₀ spots₀ subs spots at → Kept subs₀ spots₀ subs' spots' at
+module _ {entries entries' : List Primitive} {at' : ℕ} (then : Kept entries entries' at') where
+  pub kept_kept : {entries₀ : List Primitive} (at : ℕ) → at ≤ at' → Kept entries₀ entries at → Kept entries₀ entries' at
   kept_kept at l k = record { room = then.room; below = λ j m. then.below j (omega arith) ∙ k.below j m }
 
-  pub written_kept : {f : Bytes} (at : ℕ) {to : Bytes} {off : ℕ} (L : Layout variable) → at + count L ≤ at' → Written f subs spots at to off L → Written f subs' spots' at to off L
+  pub written_kept : {f : Bytes} (at : ℕ) {to : Bytes} {off : ℕ} (L : Layout variable) → at + count L ≤ at' → Written f entries at to off L → Written f entries' at to off L
   written_kept {f} at {to} {off} L l w = record {
     each = λ i m. subst (λ (r : Primitive). Found f r to off (nth L i)) (sym (then.below (at + i) (omega arith))) (w.each i m);
     near = λ i m. subst (λ (r : Primitive). (r.off ≤ off + L.size) × (r.place ≤ 256)) (sym (then.below (at + i) (omega arith))) (w.near i m);
@@ -100,41 +92,44 @@ module _ {subs subs' : List Bytes} {spots spots' : List ℕ} {at' : ℕ} (then :
 
 -- ---- entries shifted
 
-module _ {subs₀ : List Bytes} {spots₀ : List ℕ} {from at by : ℕ} where
-  pub shifted_none : Room subs₀ spots₀ → Shifted subs₀ spots₀ subs₀ spots₀ from 0 at by
+module _ {entries₀ : List Primitive} {from at by : ℕ} where
+  pub shifted_none : Room entries₀ → Shifted entries₀ entries₀ from 0 at by
   shifted_none room = record { kept = kept_none at room; memo = λ j m. refl; each = λ i m. absurd (omega arith) }
 
-  module _ {subs : List Bytes} {spots : List ℕ} {i : ℕ} {x : Primitive} (so : Shifted subs₀ spots₀ subs spots from i at by) (is : x ≡ entry_of subs spots (from + i)) (l : from + i < at) where
-    pub as_before : x ≡ entry_of subs₀ spots₀ (from + i)
+  module _ {entries : List Primitive} {i : ℕ} {x : Primitive} (so : Shifted entries₀ entries from i at by) (is : x ≡ entry_of entries (from + i)) (l : from + i < at) where
+    pub as_before : x ≡ entry_of entries₀ (from + i)
     as_before = is ∙ so.kept.below (from + i) l
 
-    pub shifted_more : {subs' : List Bytes} {spots' : List ℕ} → at + i < 256 → x.off + by ≤ 256 → subs' ≡ set subs (at + i) x.to → spots' ≡ set spots (at + i) (x.off + by + 1024 * x.place) → Shifted subs₀ spots₀ subs' spots' from (i + 1) at by
-    shifted_more h m e g = rw (e, g) (record {
+    pub shifted_more : at + i < 256 → Shifted entries₀ (set entries (at + i) (record { off = x.off + by; place = x.place; to = x.to })) from (i + 1) at by
+    shifted_more h = record {
       kept = kept_kept then at (omega arith) so.kept;
-      memo = λ j v. others_put so.kept.room (at + i) x.place x.to (x.off + by) small m j (λ e. omega arith) ∙ so.memo j v;
+      memo = λ j v. others_put so.kept.room (at + i) r small j (λ e. omega arith) ∙ so.memo j v;
       each = λ j w. ⊎_elim
           (λ v. then.below (at + j) (omega arith) ∙ so.each j v)
           (λ v.
           let z : j ≡ i = omega arith in
-          rw z (entry_put so.kept.room (at + i) x.place x.to (x.off + by) small m ∙ ap (λ (y : Primitive). record { off = y.off + by; place = y.place; to = y.to }) as_before))
+          rw z (entry_put so.kept.room (at + i) r small ∙ ap (λ (y : Primitive). record { off = y.off + by; place = y.place; to = y.to }) as_before))
           (lt_or_le j i);
-    })
+    }
       where
+        r : Primitive
+        r = record { off = x.off + by; place = x.place; to = x.to }
+
         small : at + i < 288
         small = omega arith
 
-        then : Kept subs spots (set subs (at + i) x.to) (set spots (at + i) (x.off + by + 1024 * x.place)) (at + i)
-        then = kept_put so.kept.room (at + i) x.place x.to (x.off + by) small m
+        then : Kept entries (set entries (at + i) r) (at + i)
+        then = kept_put so.kept.room (at + i) r small
 
 found_shifted : (f : Bytes) (r : Primitive) (to : Bytes) (off by : ℕ) (P : Placed variable) → Found f r to off P → Found f (record { off = r.off + by; place = r.place; to = r.to }) to (off + by) P
 found_shifted f r to off by P found k =
     ap {B = Placed k} (λ (x : ℕ). placed x (sub (under {k = k} r.to) (tree_at f r.place))) (add_comm r.off by) ∙ ap (moved by) (found k) ∙ moved_moved by off (placed_in (under {k = k} to) P)
     ∙ ap (λ (x : ℕ). moved x (placed_in (under {k = k} to) P)) (add_comm by off)
 
-pub written_shifted : {f : Bytes} {subs subs' : List Bytes} {spots spots' : List ℕ} {from at by : ℕ} {to : Bytes} {off many : ℕ} (L : Layout variable) → many ≡ count L → Written f subs spots from to off L
-    → Shifted subs spots subs' spots' from many at by → Written f subs' spots' at to (off + by) L
-written_shifted {f} {subs} {subs'} {spots} {spots'} {from} {at} {by} {to} {off} L e w so = record {
-  each = λ i m. subst (λ (r : Primitive). Found f r to (off + by) (nth L i)) (sym (so.each i (omega arith))) (found_shifted f (entry_of subs spots (from + i)) to off by (nth L i) (w.each i m));
+pub written_shifted : {f : Bytes} {entries entries' : List Primitive} {from at by : ℕ} {to : Bytes} {off many : ℕ} (L : Layout variable) → many ≡ count L → Written f entries from to off L
+    → Shifted entries entries' from many at by → Written f entries' at to (off + by) L
+written_shifted {f} {entries} {entries'} {from} {at} {by} {to} {off} L e w so = record {
+  each = λ i m. subst (λ (r : Primitive). Found f r to (off + by) (nth L i)) (sym (so.each i (omega arith))) (found_shifted f (entry_of entries (from + i)) to off by (nth L i) (w.each i m));
   near = λ i m. subst (λ (r : Primitive). (r.off ≤ off + by + L.size) × (r.place ≤ 256)) (sym (so.each i (omega arith))) (let n = w.near i m in (omega (arith, n.0), n.1));
 }
 
@@ -143,67 +138,67 @@ written_shifted {f} {subs} {subs'} {spots} {spots'} {from} {at} {by} {to} {off} 
 found_moved : (f : Bytes) (r : Primitive) (to : Bytes) (off x : ℕ) (P : Placed variable) → Found f r to (off + x) P → Found f r to off (moved x P)
 found_moved f r to off x P found k = found k ∙ sym (moved_moved off x (placed_in (under {k = k} to) P)) ∙ ap (moved off) (sym (placed_moved (under {k = k} to) x P))
 
-module _ {f : Bytes} {subs : List Bytes} {spots : List ℕ} (at : ℕ) {to : Bytes} (off : ℕ) where
-  written_packed : (A B : Layout variable) → Written f subs spots at to off A → Written f subs spots (at + count A) to (off + A.size) B → Written f subs spots at to off (packed A B)
+module _ {f : Bytes} {entries : List Primitive} (at : ℕ) {to : Bytes} (off : ℕ) where
+  written_packed : (A B : Layout variable) → Written f entries at to off A → Written f entries (at + count A) to (off + A.size) B → Written f entries at to off (packed A B)
   written_packed A B a b = record {
     each = λ i m. ⊎_elim (left i) (right i m) (lt_or_le i (count A));
     near = λ i m. ⊎_elim (λ l. let n = a.near i l in (omega (arith, n.0), n.1)) (beyond i m) (lt_or_le i (count A));
   }
     where
-      beyond : (i : ℕ) → i < count (packed A B) → count A ≤ i → ((entry_of subs spots (at + i)).off ≤ off + (packed A B).size) × ((entry_of subs spots (at + i)).place ≤ 256)
+      beyond : (i : ℕ) → i < count (packed A B) → count A ≤ i → ((entry_of entries (at + i)).off ≤ off + (packed A B).size) × ((entry_of entries (at + i)).place ≤ 256)
       beyond i m l =
           let p : at + count A + (i - count A) ≡ at + i = omega arith in
-          let n = subst (λ (x : ℕ). ((entry_of subs spots x).off ≤ off + A.size + B.size) × ((entry_of subs spots x).place ≤ 256)) p (b.near (i - count A) (omega (arith, count_packed A B))) in
+          let n = subst (λ (x : ℕ). ((entry_of entries x).off ≤ off + A.size + B.size) × ((entry_of entries x).place ≤ 256)) p (b.near (i - count A) (omega (arith, count_packed A B))) in
           (omega (arith, n.0), n.1)
 
-      left : (i : ℕ) → i < count A → Found f (entry_of subs spots (at + i)) to off (nth (packed A B) i)
-      left i l = subst (λ (P : Placed variable). Found f (entry_of subs spots (at + i)) to off P) (sym (nth_left A B i l)) (a.each i l)
+      left : (i : ℕ) → i < count A → Found f (entry_of entries (at + i)) to off (nth (packed A B) i)
+      left i l = subst (λ (P : Placed variable). Found f (entry_of entries (at + i)) to off P) (sym (nth_left A B i l)) (a.each i l)
 
-      right : (i : ℕ) → i < count (packed A B) → count A ≤ i → Found f (entry_of subs spots (at + i)) to off (nth (packed A B) i)
+      right : (i : ℕ) → i < count (packed A B) → count A ≤ i → Found f (entry_of entries (at + i)) to off (nth (packed A B) i)
       right i m l =
           let s : i - count A < count B = omega (arith, count_packed A B) in
           let e : count A + (i - count A) ≡ i = omega arith in
           let p : at + count A + (i - count A) ≡ at + i = omega arith in
-          let found = found_moved f (entry_of subs spots (at + i)) to off A.size (nth B (i - count A)) (subst (λ (x : ℕ). Found f (entry_of subs spots x) to (off + A.size) (nth B (i - count A))) p (b.each (i - count A) s)) in
-          subst (λ (P : Placed variable). Found f (entry_of subs spots (at + i)) to off P) (sym (ap (nth (packed A B)) (sym e) ∙ nth_right A B (i - count A) s)) found
+          let found = found_moved f (entry_of entries (at + i)) to off A.size (nth B (i - count A)) (subst (λ (x : ℕ). Found f (entry_of entries x) to (off + A.size) (nth B (i - count A))) p (b.each (i - count A) s)) in
+          subst (λ (P : Placed variable). Found f (entry_of entries (at + i)) to off P) (sym (ap (nth (packed A B)) (sym e) ∙ nth_right A B (i - count A) s)) found
 
   -- one copy more
-  pub written_copy : (h : ℕ) (L : Layout variable) (sz cnt : ℕ) → sz ≡ L.size → cnt ≡ count L → Written f subs spots at to off (copies_of h L) → Written f subs spots (at + h * cnt) to (off + h * sz) L
-      → Written f subs spots at to off (copies_of (suc h) L)
+  pub written_copy : (h : ℕ) (L : Layout variable) (sz cnt : ℕ) → sz ≡ L.size → cnt ≡ count L → Written f entries at to off (copies_of h L) → Written f entries (at + h * cnt) to (off + h * sz) L
+      → Written f entries at to off (copies_of (suc h) L)
   written_copy h L sz cnt is-size is-count a w = record { each = λ i m. ⊎_elim (left i m) (right i m) (lt_or_le i (h * count L)); near = λ i m. ⊎_elim (before_it i) (beyond i m) (lt_or_le i (h * count L)) }
     where
-      b : Written f subs spots (at + h * count L) to (off + h * L.size) L
+      b : Written f entries (at + h * count L) to (off + h * L.size) L
       b = rw (is-size, is-count) at w
 
-      before_it : (i : ℕ) → i < h * count L → ((entry_of subs spots (at + i)).off ≤ off + (copies_of (suc h) L).size) × ((entry_of subs spots (at + i)).place ≤ 256)
+      before_it : (i : ℕ) → i < h * count L → ((entry_of entries (at + i)).off ≤ off + (copies_of (suc h) L).size) × ((entry_of entries (at + i)).place ≤ 256)
       before_it i l =
           let n = a.near i (omega (arith, count_copies_of h L)) in
           (omega (arith, n.0, size_copies_of h L, size_copies_of (suc h) L), n.1)
 
-      beyond : (i : ℕ) → i < count (copies_of (suc h) L) → h * count L ≤ i → ((entry_of subs spots (at + i)).off ≤ off + (copies_of (suc h) L).size) × ((entry_of subs spots (at + i)).place ≤ 256)
+      beyond : (i : ℕ) → i < count (copies_of (suc h) L) → h * count L ≤ i → ((entry_of entries (at + i)).off ≤ off + (copies_of (suc h) L).size) × ((entry_of entries (at + i)).place ≤ 256)
       beyond i m l =
           let p : at + h * count L + (i - h * count L) ≡ at + i = omega arith in
-          let n = subst (λ (x : ℕ). ((entry_of subs spots x).off ≤ off + h * L.size + L.size) × ((entry_of subs spots x).place ≤ 256)) p (b.near (i - h * count L) (omega (arith, count_copies_of (suc h) L))) in
+          let n = subst (λ (x : ℕ). ((entry_of entries x).off ≤ off + h * L.size + L.size) × ((entry_of entries x).place ≤ 256)) p (b.near (i - h * count L) (omega (arith, count_copies_of (suc h) L))) in
           (omega (arith, n.0, size_copies_of (suc h) L), n.1)
 
       some : (i : ℕ) → i < count (copies_of (suc h) L) → 0 < count L
       some i m = ⊎_elim (λ l. l) (λ l. absurd (let z : count L ≡ 0 = omega arith in let w : i < suc h * 0 = subst (λ (x : ℕ). i < suc h * x) z (omega (arith, count_copies_of (suc h) L)) in omega arith)) (lt_or_le 0 (count L))
 
-      left : (i : ℕ) → i < count (copies_of (suc h) L) → i < h * count L → Found f (entry_of subs spots (at + i)) to off (nth (copies_of (suc h) L) i)
+      left : (i : ℕ) → i < count (copies_of (suc h) L) → i < h * count L → Found f (entry_of entries (at + i)) to off (nth (copies_of (suc h) L) i)
       left i m l =
           let e : nth (copies_of (suc h) L) i ≡ nth (copies_of h L) i = nth_copies (suc h) L i (some i m) (omega arith) ∙ sym (nth_copies h L i (some i m) l) in
-          subst (λ (P : Placed variable). Found f (entry_of subs spots (at + i)) to off P) (sym e) (a.each i (omega (arith, count_copies_of h L)))
+          subst (λ (P : Placed variable). Found f (entry_of entries (at + i)) to off P) (sym e) (a.each i (omega (arith, count_copies_of h L)))
 
-      right : (i : ℕ) → i < count (copies_of (suc h) L) → h * count L ≤ i → Found f (entry_of subs spots (at + i)) to off (nth (copies_of (suc h) L) i)
+      right : (i : ℕ) → i < count (copies_of (suc h) L) → h * count L ≤ i → Found f (entry_of entries (at + i)) to off (nth (copies_of (suc h) L) i)
       right i m l =
           let s : i - h * count L < count L = omega (arith, count_copies_of (suc h) L) in
           let e : h * count L + (i - h * count L) ≡ i = omega arith in
           let p : at + h * count L + (i - h * count L) ≡ at + i = omega arith in
-          let found = found_moved f (entry_of subs spots (at + i)) to off (h * L.size) (nth L (i - h * count L)) (subst (λ (x : ℕ). Found f (entry_of subs spots x) to (off + h * L.size) (nth L (i - h * count L))) p (b.each (i - h * count L) s)) in
-          subst (λ (P : Placed variable). Found f (entry_of subs spots (at + i)) to off P) (sym (ap (nth (copies_of (suc h) L)) (sym e) ∙ nth-copy (suc h) L h (i - h * count L) (omega arith) s)) found
+          let found = found_moved f (entry_of entries (at + i)) to off (h * L.size) (nth L (i - h * count L)) (subst (λ (x : ℕ). Found f (entry_of entries x) to (off + h * L.size) (nth L (i - h * count L))) p (b.each (i - h * count L) s)) in
+          subst (λ (P : Placed variable). Found f (entry_of entries (at + i)) to off P) (sym (ap (nth (copies_of (suc h) L)) (sym e) ∙ nth-copy (suc h) L h (i - h * count L) (omega arith) s)) found
 
 -- the first copy
-pub written_first : {f : Bytes} {subs : List Bytes} {spots : List ℕ} (at : ℕ) {to : Bytes} (off : ℕ) (L : Layout variable) → Written f subs spots at to off L → Written f subs spots at to off (copies_of 1 L)
+pub written_first : {f : Bytes} {entries : List Primitive} (at : ℕ) {to : Bytes} (off : ℕ) (L : Layout variable) → Written f entries at to off L → Written f entries at to off (copies_of 1 L)
 unfolding copies_of
 written_first at off L w = written_packed at off L (copies_of 0 L) w (written_none (copies_of 0 L) refl)
 
@@ -219,14 +214,14 @@ copy_behind h s l = let m : 1 * s ≤ h * s = mul-le-mul_right s l in omega arit
 
 -- ---- of a struct
 
-module _ {f : Bytes} {subs : List Bytes} {spots : List ℕ} {at : ℕ} {to : Bytes} {off : ℕ} (k p : ℕ) where
+module _ {f : Bytes} {entries : List Primitive} {at : ℕ} {to : Bytes} {off : ℕ} (k p : ℕ) where
   pub written_struct : (N c d : ℕ) → term_layout f k p ≡ sub_layout (arg (args_of d c)) (struct_layout f N) → (inside : Bytes) → Keeps to → ((v : ℕ) → byte_under inside v ≡ arg_byte to d c v)
-      → Written f subs spots at inside off (struct_layout f N) → Written f subs spots at to off (term_layout f k p)
+      → Written f entries at inside off (struct_layout f N) → Written f entries at to off (term_layout f k p)
   written_struct N c d is inside keeps h w =
       let same = struct_count f k p off 0 to N c d is in
       let size = struct_size_law f k p off 0 to N c d is in
       record {
-        each = λ i m. found_struct f k p off i to N c d is inside keeps h (entry_of subs spots (at + i)) (w.each i (omega arith));
+        each = λ i m. found_struct f k p off i to N c d is inside keeps h (entry_of entries (at + i)) (w.each i (omega arith));
         near = λ i m. let n = w.near i (omega arith) in (omega (arith, n.0), n.1);
       }
 
@@ -252,77 +247,82 @@ module _ (f : Bytes) (n N : ℕ) (is : Terms f n) (off at : ℕ) (fits : off + (
   pub field_room : at + cnt + count (field f n N j) ≤ 256
   field_room = omega (arith, room, count_next, ap (λ (L : Layout variable). count L) (struct_fields f n N is), count_below f n N (suc j) (field_count f n N) less all_fit)
 
-  pub written_field : {subs : List Bytes} {spots : List ℕ} {to : Bytes} → Written f subs spots at to off (before f n N j) → Written f subs spots (at + cnt) to (off + sz) (field f n N j)
-      → Written f subs spots at to off (before f n N (suc j))
-  written_field {subs} {spots} {to} a b =
-      subst (λ (L : Layout variable). Written f subs spots at to off L) (sym next)
+  pub written_field : {entries : List Primitive} {to : Bytes} → Written f entries at to off (before f n N j) → Written f entries (at + cnt) to (off + sz) (field f n N j)
+      → Written f entries at to off (before f n N (suc j))
+  written_field {entries} {to} a b =
+      subst (λ (L : Layout variable). Written f entries at to off L) (sym next)
       (written_packed at off (before f n N j) (field f n N j) a (rw (is-size, is-count) at b))
 
 -- ---- structs remembered
 
-zeros : (n j : ℕ) → ◌≡◌ {A = ℕ} (get_or (replicate n 0) j 0) 0
-zeros zero j = refl
-zeros (suc n) zero = refl
-zeros (suc n) (suc j) = zeros n j
+nothing : (n j : ℕ) (to : Bytes) → (entry_of (replicate n (record { off = 0; place = 0; to = to })) j).place ≡ 0
+nothing zero j to = refl
+nothing (suc n) zero to = refl
+nothing (suc n) (suc j) to = nothing n j to
 
-pub past_none : (f x : Bytes) (at off : ℕ) → Past f (replicate 288 x) (replicate 288 0) at off
-past_none f x at off = record { each = λ N l s. absurd (let z = zeros 288 (256 + N) in let w : 0 < 0 / 1024 = rw z at s in omega arith) }
+pub past_none : (f to : Bytes) (at off : ℕ) → Past f (replicate 288 (record { off = 0; place = 0; to = to })) at off
+past_none f to at off = record { each = λ N l s. absurd (omega (arith, nothing 288 (256 + N) to)) }
 
-module _ {f : Bytes} {subs : List Bytes} {spots : List ℕ} (at off : ℕ) (past : Past f subs spots at off) where
-  pub past_later : {at' off' : ℕ} → at ≤ at' → off ≤ off' → Past f subs spots at' off'
+module _ {f : Bytes} {entries : List Primitive} (at off : ℕ) (past : Past f entries at off) where
+  pub past_later : {at' off' : ℕ} → at ≤ at' → off ≤ off' → Past f entries at' off'
   past_later a o = record { each = λ N l s. (let p = past.each N l s in record { behind = omega (arith, p.behind); nearer = omega (arith, p.nearer); is = p.is }) }
 
-  module _ {subs' : List Bytes} {spots' : List ℕ} {at' : ℕ} (kept : Kept subs spots subs' spots' at') (le : at ≤ at') where
-    past_one : (N : ℕ) (r : Primitive) → PastOf f subs spots at off N r → PastOf f subs' spots' at off N r
+  module _ {entries' : List Primitive} {at' : ℕ} (kept : Kept entries entries' at') (le : at ≤ at') where
+    past_one : (N : ℕ) (r : Primitive) → PastOf f entries at off N r → PastOf f entries' at off N r
     past_one N r p = record { behind = p.behind; nearer = p.nearer; is = written_kept kept (r.place - 1) (struct_layout f N) (omega (arith, p.behind)) p.is }
 
     -- what is remembered stays, where the memo does
-    pub past_kept : ((j : ℕ) → 256 ≤ j → entry_of subs' spots' j ≡ entry_of subs spots j) → Past f subs' spots' at off
+    pub past_kept : ((j : ℕ) → 256 ≤ j → entry_of entries' j ≡ entry_of entries j) → Past f entries' at off
     past_kept same = record {
       each = λ N l s.
           (let e = same (256 + N) (omega arith) in
-          subst (λ (r : Primitive). PastOf f subs' spots' at off N r) (sym e) (past_one N (entry_of subs spots (256 + N)) (past.each N l (subst (λ (r : Primitive). 0 < r.place) e s))));
+          subst (λ (r : Primitive). PastOf f entries' at off N r) (sym e) (past_one N (entry_of entries (256 + N)) (past.each N l (subst (λ (r : Primitive). 0 < r.place) e s))));
     }
 
-pub written_off : {f : Bytes} {subs : List Bytes} {spots : List ℕ} {at : ℕ} {to : Bytes} {off off' : ℕ} {L : Layout variable} → off ≡ off' → Written f subs spots at to off L → Written f subs spots at to off' L
-written_off {f} {subs} {spots} {at} {to} {off} {off'} {L} e w = subst (λ (x : ℕ). Written f subs spots at to x L) e w
+pub written_off : {f : Bytes} {entries : List Primitive} {at : ℕ} {to : Bytes} {off off' : ℕ} {L : Layout variable} → off ≡ off' → Written f entries at to off L → Written f entries at to off' L
+written_off {f} {entries} {at} {to} {off} {off'} {L} e w = subst (λ (x : ℕ). Written f entries at to x L) e w
 
-pub agree_written : {f : Bytes} {subs : List Bytes} {spots : List ℕ} {at : ℕ} {to to' : Bytes} {off : ℕ} (L : Layout variable) → Agree to to' → Written f subs spots at to off L → Written f subs spots at to' off L
-agree_written {f} {subs} {spots} {at} {to} {to'} {off} L h w = record { each = λ i m k. w.each i m k ∙ ap (moved off) (placed_agree k (nth L i)); near = w.near }
+pub agree_written : {f : Bytes} {entries : List Primitive} {at : ℕ} {to to' : Bytes} {off : ℕ} (L : Layout variable) → Agree to to' → Written f entries at to off L → Written f entries at to' off L
+agree_written {f} {entries} {at} {to} {to'} {off} L h w = record { each = λ i m k. w.each i m k ∙ ap (moved off) (placed_agree k (nth L i)); near = w.near }
   where
     placed_agree : (k : RegionKind) (P : Placed variable) → placed_in (under {k = k} to) P ≡ placed_in (under to') P
     placed_agree k (placed d T) = ap {B = Placed k} (placed d) (sub_same (under {k = k} to) (under to') (under_agree to to' h) T)
 
 -- a struct that is written is remembered
-module _ {f : Bytes} {subs subs' : List Bytes} {spots spots' : List ℕ} (N at : ℕ) (to : Bytes) (off at' off' : ℕ) (room : Room subs spots) (past : Past f subs spots at' off') (w : Written f subs spots at to off (struct_layout f N))
-    (few : N < 32) (fits : off ≤ 256) (le : at + count (struct_layout f N) ≤ at') (most : at' ≤ 256) (nearer : off ≤ off')
-    (e : subs' ≡ set subs (256 + N) to) (g : spots' ≡ set spots (256 + N) (off + 1024 * (at + 1))) where
+module _ {f : Bytes} {entries : List Primitive} (N at : ℕ) (to : Bytes) (off at' off' : ℕ) (room : Room entries) (past : Past f entries at' off') (w : Written f entries at to off (struct_layout f N))
+    (few : N < 32) (le : at + count (struct_layout f N) ≤ at') (most : at' ≤ 256) (nearer : off ≤ off') where
+  abbrev r₀ : Primitive
+  r₀ = record { off = off; place = at + 1; to = to }
+
+  abbrev entries' : List Primitive
+  entries' = set entries (256 + N) r₀
+
   small : 256 + N < 288
   small = omega arith
 
-  memo_kept : Kept subs spots subs' spots' (256 + N)
-  memo_kept = rw (e, g) (kept_put room (256 + N) (at + 1) to off small fits)
+  memo_kept : Kept entries entries' (256 + N)
+  memo_kept = kept_put room (256 + N) r₀ small
 
-  pub put_kept : Kept subs spots subs' spots' at'
+  pub put_kept : Kept entries entries' at'
   put_kept = record { room = memo_kept.room; below = λ j m. memo_kept.below j (omega arith) }
 
-  pub put_written : Written f subs' spots' at to off (struct_layout f N)
+  pub put_written : Written f entries' at to off (struct_layout f N)
   put_written = written_kept put_kept at (struct_layout f N) le w
 
-  put_same : entry_of subs' spots' (256 + N) ≡ record { off = off; place = at + 1; to = to }
-  put_same = rw (e, g) (entry_put room (256 + N) (at + 1) to off small fits)
+  put_same : entry_of entries' (256 + N) ≡ record { off = off; place = at + 1; to = to }
+  put_same = entry_put room (256 + N) r₀ small
 
-  put_other : (M : ℕ) → 256 + N ≢ 256 + M → entry_of subs' spots' (256 + M) ≡ entry_of subs spots (256 + M)
-  put_other M d = rw (e, g) (others_put room (256 + N) (at + 1) to off small fits (256 + M) d)
+  put_other : (M : ℕ) → 256 + N ≢ 256 + M → entry_of entries' (256 + M) ≡ entry_of entries (256 + M)
+  put_other M d = others_put room (256 + N) r₀ small (256 + M) d
 
-  pub past_put : Past f subs' spots' at' off'
+  pub past_put : Past f entries' at' off'
   past_put = record { each = λ M l s. go M l s (ℕ_discrete M N) }
     where
-      go : (M : ℕ) → M < 32 → 0 < (entry_of subs' spots' (256 + M)).place → Dec (M ≡ N) → PastOf f subs' spots' at' off' M (entry_of subs' spots' (256 + M))
+      go : (M : ℕ) → M < 32 → 0 < (entry_of entries' (256 + M)).place → Dec (M ≡ N) → PastOf f entries' at' off' M (entry_of entries' (256 + M))
       go M l s (yes z) =
           let v : at + 1 - 1 ≡ at = omega arith in
-          rw (z, put_same) (record { behind = omega arith; nearer = nearer; is = subst (λ (x : ℕ). Written f subs' spots' x to off (struct_layout f N)) (sym v) put_written })
+          rw (z, put_same) (record { behind = omega arith; nearer = nearer; is = subst (λ (x : ℕ). Written f entries' x to off (struct_layout f N)) (sym v) put_written })
       go M l s (no d) =
           let o = put_other M (λ z. d (omega arith)) in
-          subst (λ (r : Primitive). PastOf f subs' spots' at' off' M r) (sym o)
-          (past_one at' off' past put_kept (omega arith) M (entry_of subs spots (256 + M)) (past.each M l (subst (λ (r : Primitive). 0 < r.place) o s)))
+          subst (λ (r : Primitive). PastOf f entries' at' off' M r) (sym o)
+          (past_one at' off' past put_kept (omega arith) M (entry_of entries (256 + M)) (past.each M l (subst (λ (r : Primitive). 0 < r.place) o s)))

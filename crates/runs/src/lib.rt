@@ -71,22 +71,17 @@ fn short_run(
 // Whether the `many` primitives written into the latter entries are those of the former, from entry d on.
 fn entries_same(
     f: &[u8],
-    subs: &[[u8; 8]; ENTRIES],
-    spots: &[u64; ENTRIES],
+    entries: &[Primitive; ENTRIES],
     d: usize,
-    subs2: &[[u8; 8]; ENTRIES],
-    spots2: &[u64; ENTRIES],
+    entries2: &[Primitive; ENTRIES],
     many: usize,
 ) -> bool
     requires { (0 < many) × (d + many ≤ size_limit) }
-    ensures { Compared f.now subs.now spots.now d subs2.now spots2.now many result }
+    ensures { Compared f.now entries.now d entries2.now many result }
 {
-    let first = flattening::entry(subs, spots, d);
-    let from = first.off;
+    let from = entries[d].off;
     for i in 0..many {
-        let x = flattening::entry(subs, spots, d + i);
-        let y = flattening::entry(subs2, spots2, i);
-        if !same_prim(f, x, from, y) {
+        if !same_prim(f, entries[d + i], from, entries2[i]) {
             return false;
         }
     }
@@ -109,14 +104,16 @@ fn written_run(
     requires { (Table f.now n k tab.now) × (a ≤ n) × (b ≤ n) × (Keeps p) × (Keeps q) × (many ≡ count (term_layout f.now k b)) × (0 < many) × (d + many ≤ count (term_layout f.now k a)) }
     ensures { (j : RegionKind) → result ≡ does (dec_run (sub_layout (under {k = j} p) (term_layout f.now k a)) d (sub_layout (under q) (term_layout f.now k b))) }
 {
-    let none = [0u8; 8];
-    let mut subs = [none; ENTRIES];
-    let mut spots = [0u64; ENTRIES];
-    let mut subs2 = [none; ENTRIES];
-    let mut spots2 = [0u64; ENTRIES];
-    flattening::term_written(f, n, k, a, p, 0, &mut subs, &mut spots, 0, tab);
-    flattening::term_written(f, n, k, b, q, 0, &mut subs2, &mut spots2, 0, tab);
-    entries_same(f, &subs, &spots, d, &subs2, &spots2, many)
+    let none = Primitive {
+        off: 0,
+        place: 0,
+        to: [0; 8],
+    };
+    let mut entries = [none; ENTRIES];
+    let mut entries2 = [none; ENTRIES];
+    flattening::term_written(f, n, k, a, p, 0, &mut entries, 0, tab);
+    flattening::term_written(f, n, k, b, q, 0, &mut entries2, 0, tab);
+    entries_same(f, &entries, d, &entries2, many)
 }
 
 // The same, by whichever is cheaper.

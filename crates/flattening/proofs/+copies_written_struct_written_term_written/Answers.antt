@@ -16,7 +16,7 @@ use Rattle.terms.specs.Extents.{field_place, field_count, firsts}
 use Rattle.terms.specs.Heads.{place_of, args_of, head_of}
 use Rattle.positions.specs.Positions.{Agree, before, field, struct_fields, keeps_args, single_int, single_other, struct_size_law, struct_count, arr_layout}
 use Rattle.positions.specs.declared.Primitive.{Primitive}
-use Rattle.flattening.specs.Written.{PastOf, Past}
+use Rattle.flattening.specs.Written.{entry_of as written_entry, PastOf, Past}
 use mathlib.Core.List.{List}
 use Rattle.words.specs.Bytes.{Bytes}
 use Rattle.terms.specs.HeadLaws.{fair_at}
@@ -186,15 +186,13 @@ struct_written-loop-j-preserved t c =
 -- What is known of a struct that is at hand.
 module _ {t : ℕ} (c : struct_written-Then-at_hand t) where
   abbrev hnd : Primitive
-  hnd = c.entry-seen.result
+  hnd = written_entry c.args.entries.now (256 + c.args.number)
 
   hnd-is : (0 < hnd.place) × (Agree hnd.to c.args.to)
   hnd-is = c.at_hand.ensures c.if-at_hand.true
 
-  hnd-past : PastOf c.args.f.now c.args.subs.now c.args.spots.now c.args.at c.args.off c.args.number hnd
-  hnd-past =
-      subst (λ (r : Primitive). PastOf c.args.f.now c.args.subs.now c.args.spots.now c.args.at c.args.off c.args.number r) (sym c.entry-seen.ensures)
-      (c.requires.6.each c.args.number c.requires.0 (subst (λ (r : Primitive). 0 < r.place) c.entry-seen.ensures hnd-is.0))
+  hnd-past : PastOf c.args.f.now c.args.entries.now c.args.at c.args.off c.args.number hnd
+  hnd-past = c.requires.6.each c.args.number c.requires.0 hnd-is.0
 
 pub struct_written-returns-then-at_hand : goal.struct_written-returns-then-at_hand
 struct_written-returns-then-at_hand t c =
@@ -215,7 +213,7 @@ module _ {t : ℕ} (c : struct_written-After-loop-j t) where
       let e : c.loop-j.j ≡ field_count a.f.now a.n a.number = (let b = ap (λ (x : Record). x.b) c.record_at-x.ensures in let h = c.loop-j-test.false in omega arith) in
       ap (before a.f.now a.n a.number) e ∙ sym (struct_fields a.f.now a.n a.number c.requires.4.terms)
 
-  end-past : Past c.args.f.now c.loop-j.subs c.loop-j.spots (c.args.at + count (struct_layout c.args.f.now c.args.number)) (c.args.off + (struct_layout c.args.f.now c.args.number).size)
+  end-past : Past c.args.f.now c.loop-j.entries (c.args.at + count (struct_layout c.args.f.now c.args.number)) (c.args.off + (struct_layout c.args.f.now c.args.number).size)
   end-past =
       let l = c.loop-j in
       past_later (c.args.at + l.count) (c.args.off + l.size) l.invariant.4
@@ -227,11 +225,10 @@ struct_written-returns t c =
     let q = c.requires in
     let l = c.loop-j in
     let L = struct_layout a.f.now a.number in
-    let w = written_same (end-fields (goal.at.struct_written-returns t c).After-loop-j) l.invariant.2 in
-    let fits : a.off ≤ 256 = omega (arith, q.1) in (
-      put_written a.number a.at a.to a.off (a.at + count L) (a.off + L.size) l.invariant.3.room (end-past (goal.at.struct_written-returns t c).After-loop-j) w q.0 fits (omega arith) q.2 (omega arith) c.put.ensures.0 c.put.ensures.1,
-      kept_kept (put_kept a.number a.at a.to a.off (a.at + count L) (a.off + L.size) l.invariant.3.room (end-past (goal.at.struct_written-returns t c).After-loop-j) w q.0 fits (omega arith) q.2 (omega arith) c.put.ensures.0 c.put.ensures.1) a.at (omega arith) l.invariant.3,
-      past_put a.number a.at a.to a.off (a.at + count L) (a.off + L.size) l.invariant.3.room (end-past (goal.at.struct_written-returns t c).After-loop-j) w q.0 fits (omega arith) q.2 (omega arith) c.put.ensures.0 c.put.ensures.1,
+    let w = written_same (end-fields (goal.at.struct_written-returns t c).After-loop-j) l.invariant.2 in (
+      put_written a.number a.at a.to a.off (a.at + count L) (a.off + L.size) l.invariant.3.room (end-past (goal.at.struct_written-returns t c).After-loop-j) w q.0 (omega arith) q.2 (omega arith),
+      kept_kept (put_kept a.number a.at a.to a.off (a.at + count L) (a.off + L.size) l.invariant.3.room (end-past (goal.at.struct_written-returns t c).After-loop-j) w q.0 (omega arith) q.2 (omega arith)) a.at (omega arith) l.invariant.3,
+      past_put a.number a.at a.to a.off (a.at + count L) (a.off + L.size) l.invariant.3.room (end-past (goal.at.struct_written-returns t c).After-loop-j) w q.0 (omega arith) q.2 (omega arith),
     )
 
 -- What is known of a term whose core is a struct, in plain names.
@@ -347,16 +344,24 @@ term_written-returns-in-Arr t c = (
 pub term_written-returns-in-Int : goal.term_written-returns-in-Int
 term_written-returns-in-Int t c =
     let a = c.args in
+    let at = (goal.at.term_written-returns-in-Int t c).After-head_of in
     let none : Bytes = replicate 8 0 in
     let e = sym c.head_of.ensures.0 ∙ c.in-Int.is in
-    let w = put_single c.requires.5 a.at (trm-p (goal.at.term_written-returns-in-Int t c).After-head_of) none a.off (omega (arith, trm-room (goal.at.term_written-returns-in-Int t c).After-head_of, trm-some (goal.at.term_written-returns-in-Int t c).After-head_of)) (omega (arith, trm-fits (goal.at.term_written-returns-in-Int t c).After-head_of)) a.f.now a.k _ (omega (arith, trm-low (goal.at.term_written-returns-in-Int t c).After-head_of, c.requires.4.terms.few))
-    (single_int a.f.now a.k (trm-p (goal.at.term_written-returns-in-Int t c).After-head_of) a.off 0 none _ e) c.put.ensures.0 c.put.ensures.1 in
-    (written_same (sym (trm-same (goal.at.term_written-returns-in-Int t c).After-head_of)) (written_int a.k (trm-p (goal.at.term_written-returns-in-Int t c).After-head_of) _ e w.0), w.1, past_later a.at a.off (past_kept a.at a.off c.requires.7 w.1 (omega arith) (put_memo c.requires.5 a.at (trm-p (goal.at.term_written-returns-in-Int t c).After-head_of) none a.off (let z = trm-some (goal.at.term_written-returns-in-Int t c).After-head_of in omega (arith, trm-room (goal.at.term_written-returns-in-Int t c).After-head_of)) (omega (arith, trm-fits (goal.at.term_written-returns-in-Int t c).After-head_of)) (let z = trm-some (goal.at.term_written-returns-in-Int t c).After-head_of in omega (arith, trm-room (goal.at.term_written-returns-in-Int t c).After-head_of)) c.put.ensures.0 c.put.ensures.1)) (omega arith) (omega arith))
+    let room : a.at < 256 = omega (arith, trm-room at, trm-some at) in
+    let w = put_single c.requires.5 a.at (trm-p at) none a.off (omega arith) a.f.now a.k _ (omega (arith, trm-low at, c.requires.4.terms.few)) (single_int a.f.now a.k (trm-p at) a.off 0 none _ e) in (
+      written_same (sym (trm-same at)) (written_int a.k (trm-p at) _ e w.0),
+      w.1,
+      past_later a.at a.off (past_kept a.at a.off c.requires.7 w.1 (omega arith) (put_memo c.requires.5 a.at _ (omega arith) room)) (omega arith) (omega arith),
+    )
 
 pub term_written-returns-in_default : goal.term_written-returns-in_default
 term_written-returns-in_default t c =
     let a = c.args in
-    let one = single_other a.f.now a.k (trm-p (goal.at.term_written-returns-in_default t c).After-head_of) a.off 0 a.to _ (sym c.head_of.ensures.0) (subst NoStruct (sym c.head_of.ensures.0) (trm-core (goal.at.term_written-returns-in_default t c).After-head_of).1) c.in_default.not-Arr in
-    let w = put_single c.requires.5 a.at (trm-p (goal.at.term_written-returns-in_default t c).After-head_of) a.to a.off (omega (arith, trm-room (goal.at.term_written-returns-in_default t c).After-head_of, trm-some (goal.at.term_written-returns-in_default t c).After-head_of)) (omega (arith, trm-fits (goal.at.term_written-returns-in_default t c).After-head_of)) a.f.now a.k _ (omega (arith, trm-low (goal.at.term_written-returns-in_default t c).After-head_of, c.requires.4.terms.few))
-    one.1 c.put-in_default.ensures.0 c.put-in_default.ensures.1 in
-    (written_same (sym (trm-same (goal.at.term_written-returns-in_default t c).After-head_of)) w.0, w.1, past_later a.at a.off (past_kept a.at a.off c.requires.7 w.1 (omega arith) (put_memo c.requires.5 a.at (trm-p (goal.at.term_written-returns-in_default t c).After-head_of) a.to a.off (let z = trm-some (goal.at.term_written-returns-in_default t c).After-head_of in omega (arith, trm-room (goal.at.term_written-returns-in_default t c).After-head_of)) (omega (arith, trm-fits (goal.at.term_written-returns-in_default t c).After-head_of)) (let z = trm-some (goal.at.term_written-returns-in_default t c).After-head_of in omega (arith, trm-room (goal.at.term_written-returns-in_default t c).After-head_of)) c.put-in_default.ensures.0 c.put-in_default.ensures.1)) (omega arith) (omega arith))
+    let at = (goal.at.term_written-returns-in_default t c).After-head_of in
+    let one = single_other a.f.now a.k (trm-p at) a.off 0 a.to _ (sym c.head_of.ensures.0) (subst NoStruct (sym c.head_of.ensures.0) (trm-core at).1) c.in_default.not-Arr in
+    let room : a.at < 256 = omega (arith, trm-room at, trm-some at) in
+    let w = put_single c.requires.5 a.at (trm-p at) a.to a.off (omega arith) a.f.now a.k _ (omega (arith, trm-low at, c.requires.4.terms.few)) one.1 in (
+      written_same (sym (trm-same at)) w.0,
+      w.1,
+      past_later a.at a.off (past_kept a.at a.off c.requires.7 w.1 (omega arith) (put_memo c.requires.5 a.at _ (omega arith) room)) (omega arith) (omega arith),
+    )
