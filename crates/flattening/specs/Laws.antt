@@ -1,9 +1,10 @@
 -- Terms written out: an entry, one layout after another, copies and fields. Assumes nothing.
-use Rattle.std.specs.Prelude.{◌≡◌, ◌≢◌, List, ℕ, zero, suc, ◌+◌, ◌-◌, ◌*◌, ◌≤◌, ◌<◌, set, replicate}
+use Rattle.std.specs.Prelude.{◌≡◌, List, Option, Some, None, ℕ, suc, ◌+◌, ◌-◌, ◌*◌, ◌≤◌, ◌<◌, length, get_or, set, replicate}
 use Rattle.std.proofs.Math.Path.{refl, ap}
 use Rattle.std.proofs.Common.{sym, ◌∙◌, subst, ⊎_elim, add_comm, mul-le-mul_right, arith, length-set, get_or-set_same, get_or-set_other}
 use Rattle.std.proofs.Math.Decide.{ℕ_discrete}
-use Rattle.std.proofs.lemmas.List.{length-replicate}
+use Rattle.std.proofs.Math.ListN.{get_or-eq_default}
+use Rattle.std.proofs.lemmas.List.{length-replicate, get_or-replicate}
 use Rattle.words.specs.Bytes.{Bytes}
 use Rattle.words.specs.Choose.{lt_or_le}
 use Rattle.rules.specs.Types.{RegionKind, variable, int, sub, arg}
@@ -18,14 +19,15 @@ use Rattle.terms.specs.declared.Head.TheVariants.{Int}
 use Rattle.positions.specs.Table.{term_layout, struct_layout}
 use Rattle.positions.specs.Positions.{Keeps, Agree, under_agree, arg_byte, Found, found_single, single_int, found_struct, struct_size_law, struct_count, nth_copies, before, field, struct_fields, more_packed, fits_below, count_below, size_below}
 use Rattle.positions.specs.declared.Primitive.{Primitive}
+use Rattle.flattening.specs.declared.Seen.{Seen}
 use Rattle.flattening.specs.Written.{entry_of, Room, Written, Kept, Shifted, PastOf, Past}
 
 -- ---- entries
 
-pub room_fresh : (r : Primitive) → Room (replicate 288 r)
-room_fresh r = record { are = length-replicate {A = Primitive} 288 r }
+pub room_fresh : (r : Primitive) → Room (replicate 256 r)
+room_fresh r = record { are = length-replicate {A = Primitive} 256 r }
 
-module _ {entries : List Primitive} (room : Room entries) (at : ℕ) (r : Primitive) (h : at < 288) where
+module _ {entries : List Primitive} (room : Room entries) (at : ℕ) (r : Primitive) (h : at < 256) where
   pub entry_put : entry_of (set entries at r) at ≡ r
   entry_put = get_or-set_same entries at r _ (omega (arith, room.are))
 
@@ -35,14 +37,8 @@ module _ {entries : List Primitive} (room : Room entries) (at : ℕ) (r : Primit
     below = λ j m. get_or-set_other entries at j r _ (λ e. omega arith);
   }
 
-  pub others_put : (j : ℕ) → at ≢ j → entry_of (set entries at r) j ≡ entry_of entries j
-  others_put j d = get_or-set_other entries at j r _ (λ e. d (sym e))
-
-  pub put_memo : at < 256 → (j : ℕ) → 256 ≤ j → entry_of (set entries at r) j ≡ entry_of entries j
-  put_memo low j m = others_put j (λ z. omega arith)
-
 -- an integer or a pointer is one entry
-module _ {entries : List Primitive} (room : Room entries) (at place : ℕ) (to : Bytes) (off : ℕ) (h : at < 288) where
+module _ {entries : List Primitive} (room : Room entries) (at place : ℕ) (to : Bytes) (off : ℕ) (h : at < 256) where
   abbrev one : Primitive
   one = record { off = off; place = place; to = to }
 
@@ -94,7 +90,7 @@ module _ {entries entries' : List Primitive} {at' : ℕ} (then : Kept entries en
 
 module _ {entries₀ : List Primitive} {from at by : ℕ} where
   pub shifted_none : Room entries₀ → Shifted entries₀ entries₀ from 0 at by
-  shifted_none room = record { kept = kept_none at room; memo = λ j m. refl; each = λ i m. absurd (omega arith) }
+  shifted_none room = record { kept = kept_none at room; each = λ i m. absurd (omega arith) }
 
   module _ {entries : List Primitive} {i : ℕ} {x : Primitive} (so : Shifted entries₀ entries from i at by) (is : x ≡ entry_of entries (from + i)) (l : from + i < at) where
     pub as_before : x ≡ entry_of entries₀ (from + i)
@@ -103,7 +99,6 @@ module _ {entries₀ : List Primitive} {from at by : ℕ} where
     pub shifted_more : at + i < 256 → Shifted entries₀ (set entries (at + i) (record { off = x.off + by; place = x.place; to = x.to })) from (i + 1) at by
     shifted_more h = record {
       kept = kept_kept then at (omega arith) so.kept;
-      memo = λ j v. others_put so.kept.room (at + i) r small j (λ e. omega arith) ∙ so.memo j v;
       each = λ j w. ⊎_elim
           (λ v. then.below (at + j) (omega arith) ∙ so.each j v)
           (λ v.
@@ -115,7 +110,7 @@ module _ {entries₀ : List Primitive} {from at by : ℕ} where
         r : Primitive
         r = record { off = x.off + by; place = x.place; to = x.to }
 
-        small : at + i < 288
+        small : at + i < 256
         small = omega arith
 
         then : Kept entries (set entries (at + i) r) (at + i)
@@ -255,29 +250,27 @@ module _ (f : Bytes) (n N : ℕ) (is : Terms f n) (off at : ℕ) (fits : off + (
 
 -- ---- structs remembered
 
-nothing : (n j : ℕ) (to : Bytes) → (entry_of (replicate n (record { off = 0; place = 0; to = to })) j).place ≡ 0
-nothing zero j to = refl
-nothing (suc n) zero to = refl
-nothing (suc n) (suc j) to = nothing n j to
+-- nothing is remembered at first
+pub past_none : (f : Bytes) (entries : List Primitive) (n at off : ℕ) → Past f entries (replicate n None) at off
+past_none f entries n at off = record { each = λ N l r e. absurd (let z = none_there N in cc) }
+  where
+    none_there : (N : ℕ) → get_or (replicate {A = Option Seen} n None) N None ≡ None
+    none_there N = ⊎_elim
+        (λ l. get_or-replicate {A = Option Seen} n N None None l)
+        (λ l. get_or-eq_default (replicate {A = Option Seen} n None) None (omega (arith, length-replicate {A = Option Seen} n None)))
+        (lt_or_le N n)
 
-pub past_none : (f to : Bytes) (at off : ℕ) → Past f (replicate 288 (record { off = 0; place = 0; to = to })) at off
-past_none f to at off = record { each = λ N l s. absurd (omega (arith, nothing 288 (256 + N) to)) }
+module _ {f : Bytes} {entries : List Primitive} {seen : List (Option Seen)} (at off : ℕ) (past : Past f entries seen at off) where
+  pub past_later : {at' off' : ℕ} → at ≤ at' → off ≤ off' → Past f entries seen at' off'
+  past_later a o = record { each = λ N l r e. (let p = past.each N l r e in record { behind = omega (arith, p.behind); nearer = omega (arith, p.nearer); is = p.is }) }
 
-module _ {f : Bytes} {entries : List Primitive} (at off : ℕ) (past : Past f entries at off) where
-  pub past_later : {at' off' : ℕ} → at ≤ at' → off ≤ off' → Past f entries at' off'
-  past_later a o = record { each = λ N l s. (let p = past.each N l s in record { behind = omega (arith, p.behind); nearer = omega (arith, p.nearer); is = p.is }) }
-
-  module _ {entries' : List Primitive} {at' : ℕ} (kept : Kept entries entries' at') (le : at ≤ at') where
-    past_one : (N : ℕ) (r : Primitive) → PastOf f entries at off N r → PastOf f entries' at off N r
-    past_one N r p = record { behind = p.behind; nearer = p.nearer; is = written_kept kept (r.place - 1) (struct_layout f N) (omega (arith, p.behind)) p.is }
-
-    -- what is remembered stays, where the memo does
-    pub past_kept : ((j : ℕ) → 256 ≤ j → entry_of entries' j ≡ entry_of entries j) → Past f entries' at off
-    past_kept same = record {
-      each = λ N l s.
-          (let e = same (256 + N) (omega arith) in
-          subst (λ (r : Primitive). PastOf f entries' at off N r) (sym e) (past_one N (entry_of entries (256 + N)) (past.each N l (subst (λ (r : Primitive). 0 < r.place) e s))));
-    }
+  -- what is remembered stays
+  pub past_kept : {entries' : List Primitive} {at' : ℕ} → Kept entries entries' at' → at ≤ at' → Past f entries' seen at off
+  past_kept kept le = record {
+    each = λ N l r e.
+        (let p = past.each N l r e in
+        record { behind = p.behind; nearer = p.nearer; is = written_kept kept r.start (struct_layout f N) (omega (arith, p.behind)) p.is });
+  }
 
 pub written_off : {f : Bytes} {entries : List Primitive} {at : ℕ} {to : Bytes} {off off' : ℕ} {L : Layout variable} → off ≡ off' → Written f entries at to off L → Written f entries at to off' L
 written_off {f} {entries} {at} {to} {off} {off'} {L} e w = subst (λ (x : ℕ). Written f entries at to x L) e w
@@ -289,40 +282,21 @@ agree_written {f} {entries} {at} {to} {to'} {off} L h w = record { each = λ i m
     placed_agree k (placed d T) = ap {B = Placed k} (placed d) (sub_same (under {k = k} to) (under to') (under_agree to to' h) T)
 
 -- a struct that is written is remembered
-module _ {f : Bytes} {entries : List Primitive} (N at : ℕ) (to : Bytes) (off at' off' : ℕ) (room : Room entries) (past : Past f entries at' off') (w : Written f entries at to off (struct_layout f N))
-    (few : N < 32) (le : at + count (struct_layout f N) ≤ at') (most : at' ≤ 256) (nearer : off ≤ off') where
-  abbrev r₀ : Primitive
-  r₀ = record { off = off; place = at + 1; to = to }
+module _ {f : Bytes} {entries : List Primitive} {seen : List (Option Seen)} (N at : ℕ) (to : Bytes) (off at' off' : ℕ) (past : Past f entries seen at' off') (w : Written f entries at to off (struct_layout f N))
+    (le : at + count (struct_layout f N) ≤ at') (nearer : off ≤ off') where
+  abbrev last : Seen
+  last = record { start = at; off = off; to = to }
 
-  abbrev entries' : List Primitive
-  entries' = set entries (256 + N) r₀
-
-  small : 256 + N < 288
-  small = omega arith
-
-  memo_kept : Kept entries entries' (256 + N)
-  memo_kept = kept_put room (256 + N) r₀ small
-
-  pub put_kept : Kept entries entries' at'
-  put_kept = record { room = memo_kept.room; below = λ j m. memo_kept.below j (omega arith) }
-
-  pub put_written : Written f entries' at to off (struct_layout f N)
-  put_written = written_kept put_kept at (struct_layout f N) le w
-
-  put_same : entry_of entries' (256 + N) ≡ record { off = off; place = at + 1; to = to }
-  put_same = entry_put room (256 + N) r₀ small
-
-  put_other : (M : ℕ) → 256 + N ≢ 256 + M → entry_of entries' (256 + M) ≡ entry_of entries (256 + M)
-  put_other M d = others_put room (256 + N) r₀ small (256 + M) d
-
-  pub past_put : Past f entries' at' off'
-  past_put = record { each = λ M l s. go M l s (ℕ_discrete M N) }
+  pub past_put : Past f entries (set seen N (Some last)) at' off'
+  past_put = record { each = λ M l r e. go M l r e (ℕ_discrete M N) }
     where
-      go : (M : ℕ) → M < 32 → 0 < (entry_of entries' (256 + M)).place → Dec (M ≡ N) → PastOf f entries' at' off' M (entry_of entries' (256 + M))
-      go M l s (yes z) =
-          let v : at + 1 - 1 ≡ at = omega arith in
-          rw (z, put_same) (record { behind = omega arith; nearer = nearer; is = subst (λ (x : ℕ). Written f entries' x to off (struct_layout f N)) (sym v) put_written })
-      go M l s (no d) =
-          let o = put_other M (λ z. d (omega arith)) in
-          subst (λ (r : Primitive). PastOf f entries' at' off' M r) (sym o)
-          (past_one at' off' past put_kept (omega arith) M (entry_of entries (256 + M)) (past.each M l (subst (λ (r : Primitive). 0 < r.place) o s)))
+      here : PastOf f entries at' off' N last
+      here = record { behind = le; nearer = nearer; is = w }
+
+      go : (M : ℕ) → M < 32 → (r : Seen) → get_or (set seen N (Some last)) M None ≡ Some r → Dec (M ≡ N) → PastOf f entries at' off' M r
+      go M l r e (yes z) =
+          ⊎_elim
+          (λ s. let g : get_or (set seen N (Some last)) M None ≡ Some last = rw z (get_or-set_same seen N (Some last) None s) in let k : last ≡ r = cc in let h : PastOf f entries at' off' M last = rw z here in subst (λ (x : Seen). PastOf f entries at' off' M x) k h)
+          (λ s. absurd (let g : get_or (set seen N (Some last)) M None ≡ None = get_or-eq_default (set seen N (Some last)) None (omega (arith, length-set seen N (Some last))) in cc))
+          (lt_or_le N (length seen))
+      go M l r e (no d) = past.each M l r (sym (get_or-set_other seen N M (Some last) None d) ∙ e)

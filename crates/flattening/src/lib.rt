@@ -12,16 +12,18 @@ use positions::{Core, Primitive};
 use rules::limits::{MOST_STRUCTS, SIZE_LIMIT};
 use terms::Head;
 
-// Entries of primitives come first, as many as a term can have; from MEMO on there is one for each struct, place 0 where it was not written yet: the
-// first of its primitives, from 1, and the distance and substitution with which it was written last.
-const MEMO: usize = SIZE_LIMIT;
+// Where a struct was written last: its first entry, and the distance and the substitution with which it was written.
+#[derive(Clone, Copy)]
+pub struct Seen {
+    pub start: usize,
+    pub off: usize,
+    pub to: [u8; 8],
+}
 
-pub const ENTRIES: usize = SIZE_LIMIT + MOST_STRUCTS;
-
-// ---- entries
+// ---- entries: as many as a term can have primitives
 
 // The `many` entries from `from` on once more, from `at` on, each `by` bytes further.
-fn shifted(entries: &mut [Primitive; ENTRIES], from: usize, many: usize, at: usize, by: usize)
+fn shifted(entries: &mut [Primitive; SIZE_LIMIT], from: usize, many: usize, at: usize, by: usize)
     requires { (from + many ≤ at) × (at + many ≤ size_limit) × (Room entries.old) × (Near entries.old from many by) }
     ensures { Shifted entries.old entries.new from many at by }
 {
@@ -41,13 +43,6 @@ pub fn agree(x: [u8; 8], y: [u8; 8]) -> bool
     x == y
 }
 
-// Whether something was written, and under the same substitution.
-fn at_hand(start: usize, x: [u8; 8], y: [u8; 8]) -> bool
-    ensures { result ≡ true → (0 < start) × (Agree x y) }
-{
-    start > 0 && agree(x, y)
-}
-
 // ---- writing out: functions in a cycle, as those of positions
 
 // The primitives of the term at place p, which lies off bytes into something of at most 256, from entry `at` on.
@@ -59,12 +54,13 @@ pub fn term_written(
     p: usize,
     to: [u8; 8],
     off: usize,
-    entries: &mut [Primitive; ENTRIES],
+    entries: &mut [Primitive; SIZE_LIMIT],
+    seen: &mut [Option<Seen>; MOST_STRUCTS],
     at: usize,
     tab: &[u64],
 )
-    requires { let L = term_layout f.now k p in (p ≤ n) × (off + L.size ≤ size_limit) × (at + count L ≤ size_limit) × (Keeps to) × (Known f.now n k tab.now) × (Room entries.old) × (k ≤ most_structs) × (Past f.now entries.old at off) }
-    ensures { (Written f.now entries.new at to off (term_layout f.now k p)) × (Kept entries.old entries.new at) × (Past f.now entries.new (at + count (term_layout f.now k p)) (off + (term_layout f.now k p).size)) }
+    requires { let L = term_layout f.now k p in (p ≤ n) × (off + L.size ≤ size_limit) × (at + count L ≤ size_limit) × (Keeps to) × (Known f.now n k tab.now) × (Room entries.old) × (k ≤ most_structs) × (Past f.now entries.old seen.old at off) }
+    ensures { (Written f.now entries.new at to off (term_layout f.now k p)) × (Kept entries.old entries.new at) × (Past f.now entries.new seen.new (at + count (term_layout f.now k p)) (off + (term_layout f.now k p).size)) }
 {
     let all = positions::extent_in(tab, p).count;
     if all == 0 {
@@ -73,11 +69,11 @@ pub fn term_written(
     match positions::core_in(tab, p) {
         Core::Fields { number, regions } => {
             let inside = positions::arguments(regions, &to);
-            struct_written(f, n, number, inside, off, all, entries, at, tab);
+            struct_written(f, n, number, inside, off, all, entries, seen, at, tab);
         }
         Core::Term(c) => match terms::head_of(f, c) {
             Head::Arr { count, inner } => {
-                copies_written(f, n, k, inner, to, off, count, entries, at, tab);
+                copies_written(f, n, k, inner, to, off, count, entries, seen, at, tab);
             }
             // an integer has no regions: under one substitution always, it is found alike without reading the file (same_prim, runs)
             Head::Int(_) => {
@@ -102,17 +98,18 @@ fn copies_written(
     to: [u8; 8],
     off: usize,
     many: usize,
-    entries: &mut [Primitive; ENTRIES],
+    entries: &mut [Primitive; SIZE_LIMIT],
+    seen: &mut [Option<Seen>; MOST_STRUCTS],
     at: usize,
     tab: &[u64],
 )
-    requires { let L = term_layout f.now k a in (a ≤ n) × (off + many * L.size ≤ size_limit) × (at + many * count L ≤ size_limit) × (Keeps to) × (Known f.now n k tab.now) × (Room entries.old) × (k ≤ most_structs) × (Past f.now entries.old at off) }
-    ensures { (Written f.now entries.new at to off (copies_of many (term_layout f.now k a))) × (Kept entries.old entries.new at) × (Past f.now entries.new (at + many * count (term_layout f.now k a)) (off + many * (term_layout f.now k a).size)) }
+    requires { let L = term_layout f.now k a in (a ≤ n) × (off + many * L.size ≤ size_limit) × (at + many * count L ≤ size_limit) × (Keeps to) × (Known f.now n k tab.now) × (Room entries.old) × (k ≤ most_structs) × (Past f.now entries.old seen.old at off) }
+    ensures { (Written f.now entries.new at to off (copies_of many (term_layout f.now k a))) × (Kept entries.old entries.new at) × (Past f.now entries.new seen.new (at + many * count (term_layout f.now k a)) (off + many * (term_layout f.now k a).size)) }
 {
     if many == 0 {
         return;
     }
-    term_written(f, n, k, a, to, off, entries, at, tab);
+    term_written(f, n, k, a, to, off, entries, seen, at, tab);
     let e = positions::extent_in(tab, a);
     for h in 1..many {
         shifted(entries, at, e.count, at + h * e.count, h * e.size);
@@ -128,16 +125,18 @@ fn struct_written(
     to: [u8; 8],
     off: usize,
     many: usize,
-    entries: &mut [Primitive; ENTRIES],
+    entries: &mut [Primitive; SIZE_LIMIT],
+    seen: &mut [Option<Seen>; MOST_STRUCTS],
     at: usize,
     tab: &[u64],
 )
-    requires { let L = struct_layout f.now number in (number < most_structs) × (off + L.size ≤ size_limit) × (at + count L ≤ size_limit) × (Keeps to) × (Known f.now n number tab.now) × (Room entries.old) × (Past f.now entries.old at off) × (many ≡ count L) × (0 < many) }
-    ensures { (Written f.now entries.new at to off (struct_layout f.now number)) × (Kept entries.old entries.new at) × (Past f.now entries.new (at + count (struct_layout f.now number)) (off + (struct_layout f.now number).size)) }
+    requires { let L = struct_layout f.now number in (number < most_structs) × (off + L.size ≤ size_limit) × (at + count L ≤ size_limit) × (Keeps to) × (Known f.now n number tab.now) × (Room entries.old) × (Past f.now entries.old seen.old at off) × (many ≡ count L) × (0 < many) }
+    ensures { (Written f.now entries.new at to off (struct_layout f.now number)) × (Kept entries.old entries.new at) × (Past f.now entries.new seen.new (at + count (struct_layout f.now number)) (off + (struct_layout f.now number).size)) }
 {
-    let seen = entries[MEMO + number];
-    if at_hand(seen.place, seen.to, to) {
-        shifted(entries, seen.place - 1, many, at, off - seen.off);
+    if let Some(last) = seen[number]
+        && agree(last.to, to)
+    {
+        shifted(entries, last.start, many, at, off - last.off);
         return;
     }
     let first = n + 2 * number;
@@ -147,14 +146,21 @@ fn struct_written(
     let mut count = 0;
     for j in 0..x.b {
         let p = terms::place_of(n, walk::file::entry_of(y, usize::from(j)));
-        term_written(f, n, number, p, to, off + size, entries, at + count, tab);
+        term_written(
+            f,
+            n,
+            number,
+            p,
+            to,
+            off + size,
+            entries,
+            seen,
+            at + count,
+            tab,
+        );
         let e = positions::extent_in(tab, p);
         size += e.size;
         count += e.count;
     }
-    entries[MEMO + number] = Primitive {
-        off,
-        place: at + 1,
-        to,
-    };
+    seen[number] = Some(Seen { start: at, off, to });
 }

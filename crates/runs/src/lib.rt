@@ -15,8 +15,8 @@ ghost use Rattle.positions.specs.Positions.{Keeps, placed_of};
 ghost use Rattle.runs.specs.Entries.{Compared};
 ghost use Rattle.runs.specs.Runs.{RunAtIs, InPageIs, StandsIs, UntypedIs};
 
-use flattening::ENTRIES;
 use positions::Primitive;
+use rules::limits::{MOST_STRUCTS, SIZE_LIMIT};
 use state::Machine;
 use terms::{Live, UNTYPED};
 
@@ -71,9 +71,9 @@ fn short_run(
 // Whether the `many` primitives written into the latter entries are those of the former, from entry d on.
 fn entries_same(
     f: &[u8],
-    entries: &[Primitive; ENTRIES],
+    entries: &[Primitive; SIZE_LIMIT],
     d: usize,
-    entries2: &[Primitive; ENTRIES],
+    entries2: &[Primitive; SIZE_LIMIT],
     many: usize,
 ) -> bool
     requires { (0 < many) × (d + many ≤ size_limit) }
@@ -109,10 +109,12 @@ fn written_run(
         place: 0,
         to: [0; 8],
     };
-    let mut entries = [none; ENTRIES];
-    let mut entries2 = [none; ENTRIES];
-    flattening::term_written(f, n, k, a, p, 0, &mut entries, 0, tab);
-    flattening::term_written(f, n, k, b, q, 0, &mut entries2, 0, tab);
+    let mut entries = [none; SIZE_LIMIT];
+    let mut entries2 = [none; SIZE_LIMIT];
+    let mut seen = [None; MOST_STRUCTS];
+    let mut seen2 = [None; MOST_STRUCTS];
+    flattening::term_written(f, n, k, a, p, 0, &mut entries, &mut seen, 0, tab);
+    flattening::term_written(f, n, k, b, q, 0, &mut entries2, &mut seen2, 0, tab);
     entries_same(f, &entries, d, &entries2, many)
 }
 

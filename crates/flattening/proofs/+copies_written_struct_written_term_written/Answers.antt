@@ -5,18 +5,17 @@ use Rattle.rules.specs.Types.{variable, arg}
 use Rattle.layout.specs.Prims.{count_copies_of, size_copies_of}
 use Rattle.terms.specs.declared.Extent.{Extent}
 use Rattle.positions.specs.Table.{term_layout, exact_of, struct_layout, NoStruct, InStruct, CoreIs}
-use Rattle.flattening.specs.Laws.{past_later, past_kept, written_none, kept_none, written_same, copies_end, kept_kept, written_kept, written_first, written_copy, written_shifted, copy_room, copy_behind, written_off, agree_written, put_written, put_kept, past_put, size_next, count_next, field_fits, field_room, written_field, put_single, put_memo, written_int, written_struct}
+use Rattle.flattening.specs.Laws.{past_later, past_kept, written_none, kept_none, written_same, copies_end, kept_kept, written_kept, written_first, written_copy, written_shifted, copy_room, copy_behind, written_off, agree_written, past_put, size_next, count_next, field_fits, field_room, written_field, put_single, written_int, written_struct}
 use mathlib.Core.Path.{◌≡◌, sym, ap, ◌∙◌, subst, refl}
 use native.Mathlib.Numerals.{add-one}
 use native.Mathlib.Omega.{arith}
-use Rattle.flattening.proofs.+copies_written_struct_written_term_written.Goals.{copies_written-After-extent_in-e, copies_written-In-loop-h, struct_written-After-extent_in-e, struct_written-After-loop-j, struct_written-After-place_of-p, struct_written-Then-at_hand, term_written-After-head_of, term_written-In-Arr, term_written-In-Fields}
+use Rattle.flattening.proofs.+copies_written_struct_written_term_written.Goals.{copies_written-After-extent_in-e, copies_written-In-loop-h, struct_written-After-extent_in-e, struct_written-After-loop-j, struct_written-After-place_of-p, struct_written-Then-agree, term_written-After-head_of, term_written-In-Arr, term_written-In-Fields}
 use Rattle.rules.specs.File.{entry_of}
 use Rattle.rules.specs.declared.Record.{Record}
 use Rattle.terms.specs.Extents.{field_place, field_count, firsts}
 use Rattle.terms.specs.Heads.{place_of, args_of, head_of}
-use Rattle.positions.specs.Positions.{Agree, before, field, struct_fields, keeps_args, single_int, single_other, struct_size_law, struct_count, arr_layout}
-use Rattle.positions.specs.declared.Primitive.{Primitive}
-use Rattle.flattening.specs.Written.{entry_of as written_entry, PastOf, Past}
+use Rattle.positions.specs.Positions.{before, field, struct_fields, keeps_args, single_int, single_other, struct_size_law, struct_count, arr_layout}
+use Rattle.flattening.specs.Written.{PastOf, Past}
 use mathlib.Core.List.{List}
 use Rattle.words.specs.Bytes.{Bytes}
 use Rattle.terms.specs.HeadLaws.{fair_at}
@@ -87,7 +86,7 @@ copies_written-loop-h-preserved t c =
             written_kept kept a.at L (omega (arith, copy-count (goal.at.copies_written-loop-h-preserved t c).After-extent_in-e)) w.1,
           )),
       kept_kept kept a.at (omega arith) v.1,
-      past_kept (a.at + count L) (a.off + L.size) v.2 kept (omega (arith, copy-count (goal.at.copies_written-loop-h-preserved t c).After-extent_in-e)) c.shifted.ensures.memo,
+      past_kept (a.at + count L) (a.off + L.size) v.2 kept (omega (arith, copy-count (goal.at.copies_written-loop-h-preserved t c).After-extent_in-e)),
     )
 
 pub copies_written-returns : goal.copies_written-returns
@@ -184,25 +183,33 @@ struct_written-loop-j-preserved t c =
     )
 
 -- What is known of a struct that is at hand.
-module _ {t : ℕ} (c : struct_written-Then-at_hand t) where
-  abbrev hnd : Primitive
-  hnd = written_entry c.args.entries.now (256 + c.args.number)
+module _ {t : ℕ} (c : struct_written-Then-agree t) where
+  hnd-past : PastOf c.args.f.now c.args.entries.now c.args.at c.args.off c.args.number c.in-Some.last
+  hnd-past = c.requires.6.each c.args.number c.requires.0 c.in-Some.last c.in-Some.is
 
-  hnd-is : (0 < hnd.place) × (Agree hnd.to c.args.to)
-  hnd-is = c.at_hand.ensures c.if-at_hand.true
+pub struct_written-overflow_sub-off : goal.struct_written-overflow_sub-off
+struct_written-overflow_sub-off t c = omega (arith, (hnd-past (goal.at.struct_written-overflow_sub-off t c).Then-agree).nearer)
 
-  hnd-past : PastOf c.args.f.now c.args.entries.now c.args.at c.args.off c.args.number hnd
-  hnd-past = c.requires.6.each c.args.number c.requires.0 hnd-is.0
+pub struct_written-shifted-requires : goal.struct_written-shifted-requires
+struct_written-shifted-requires t c =
+    let q = c.requires in
+    let p = hnd-past (goal.at.struct_written-shifted-requires t c).Then-agree in
+    let e = q.7 in (
+      omega (arith, p.behind),
+      omega (arith, q.2),
+      q.5,
+      λ i l. (let n = p.is.near i (omega arith) in (omega (arith, n.0, p.nearer, q.1), n.1)),
+    )
 
-pub struct_written-returns-then-at_hand : goal.struct_written-returns-then-at_hand
-struct_written-returns-then-at_hand t c =
+pub struct_written-returns : goal.struct_written-returns
+struct_written-returns t c =
     let a = c.args in
     let q = c.requires in
-    let p = hnd-past (goal.at.struct_written-returns-then-at_hand t c).Then-at_hand in
+    let p = hnd-past (goal.at.struct_written-returns t c).Then-agree in
     let L = struct_layout a.f.now a.number in (
-      written_off (let n = p.nearer in omega arith) (written_shifted L q.7 (agree_written L (hnd-is (goal.at.struct_written-returns-then-at_hand t c).Then-at_hand).1 p.is) c.shifted.ensures),
+      written_off (let n = p.nearer in omega arith) (written_shifted L q.7 (agree_written L (c.agree.ensures c.if-agree.true) p.is) c.shifted.ensures),
       c.shifted.ensures.kept,
-      past_later a.at a.off (past_kept a.at a.off q.6 c.shifted.ensures.kept (omega arith) c.shifted.ensures.memo) (omega arith) (omega arith),
+      past_later a.at a.off (past_kept a.at a.off q.6 c.shifted.ensures.kept (omega arith)) (omega arith) (omega arith),
     )
 
 -- What is known of a struct once its fields are written.
@@ -213,23 +220,20 @@ module _ {t : ℕ} (c : struct_written-After-loop-j t) where
       let e : c.loop-j.j ≡ field_count a.f.now a.n a.number = (let b = ap (λ (x : Record). x.b) c.record_at-x.ensures in let h = c.loop-j-test.false in omega arith) in
       ap (before a.f.now a.n a.number) e ∙ sym (struct_fields a.f.now a.n a.number c.requires.4.terms)
 
-  end-past : Past c.args.f.now c.loop-j.entries (c.args.at + count (struct_layout c.args.f.now c.args.number)) (c.args.off + (struct_layout c.args.f.now c.args.number).size)
+  end-past : Past c.args.f.now c.loop-j.entries c.loop-j.seen (c.args.at + count (struct_layout c.args.f.now c.args.number)) (c.args.off + (struct_layout c.args.f.now c.args.number).size)
   end-past =
       let l = c.loop-j in
       past_later (c.args.at + l.count) (c.args.off + l.size) l.invariant.4
       (omega (arith, l.invariant.1, ap (λ (L : Layout variable). count L) end-fields)) (omega (arith, l.invariant.0, ap (λ (L : Layout variable). L.size) end-fields))
 
-pub struct_written-returns : goal.struct_written-returns
-struct_written-returns t c =
+pub struct_written-returns-2 : goal.struct_written-returns-2
+struct_written-returns-2 t c =
     let a = c.args in
     let q = c.requires in
     let l = c.loop-j in
     let L = struct_layout a.f.now a.number in
-    let w = written_same (end-fields (goal.at.struct_written-returns t c).After-loop-j) l.invariant.2 in (
-      put_written a.number a.at a.to a.off (a.at + count L) (a.off + L.size) l.invariant.3.room (end-past (goal.at.struct_written-returns t c).After-loop-j) w q.0 (omega arith) q.2 (omega arith),
-      kept_kept (put_kept a.number a.at a.to a.off (a.at + count L) (a.off + L.size) l.invariant.3.room (end-past (goal.at.struct_written-returns t c).After-loop-j) w q.0 (omega arith) q.2 (omega arith)) a.at (omega arith) l.invariant.3,
-      past_put a.number a.at a.to a.off (a.at + count L) (a.off + L.size) l.invariant.3.room (end-past (goal.at.struct_written-returns t c).After-loop-j) w q.0 (omega arith) q.2 (omega arith),
-    )
+    let w = written_same (end-fields (goal.at.struct_written-returns-2 t c).After-loop-j) l.invariant.2 in
+    (w, l.invariant.3, past_put a.number a.at a.to a.off (a.at + count L) (a.off + L.size) (end-past (goal.at.struct_written-returns-2 t c).After-loop-j) w (omega arith) (omega arith))
 
 -- What is known of a term whose core is a struct, in plain names.
 module _ {t : ℕ} (c : term_written-In-Fields t) where
@@ -351,7 +355,7 @@ term_written-returns-in-Int t c =
     let w = put_single c.requires.5 a.at (trm-p at) none a.off (omega arith) a.f.now a.k _ (omega (arith, trm-low at, c.requires.4.terms.few)) (single_int a.f.now a.k (trm-p at) a.off 0 none _ e) in (
       written_same (sym (trm-same at)) (written_int a.k (trm-p at) _ e w.0),
       w.1,
-      past_later a.at a.off (past_kept a.at a.off c.requires.7 w.1 (omega arith) (put_memo c.requires.5 a.at _ (omega arith) room)) (omega arith) (omega arith),
+      past_later a.at a.off (past_kept a.at a.off c.requires.7 w.1 (omega arith)) (omega arith) (omega arith),
     )
 
 pub term_written-returns-in_default : goal.term_written-returns-in_default
@@ -363,5 +367,11 @@ term_written-returns-in_default t c =
     let w = put_single c.requires.5 a.at (trm-p at) a.to a.off (omega arith) a.f.now a.k _ (omega (arith, trm-low at, c.requires.4.terms.few)) one.1 in (
       written_same (sym (trm-same at)) w.0,
       w.1,
-      past_later a.at a.off (past_kept a.at a.off c.requires.7 w.1 (omega arith) (put_memo c.requires.5 a.at _ (omega arith) room)) (omega arith) (omega arith),
+      past_later a.at a.off (past_kept a.at a.off c.requires.7 w.1 (omega arith)) (omega arith) (omega arith),
     )
+
+pub term_written-returns-then-all-eq0 : goal.term_written-returns-then-all-eq0
+term_written-returns-then-all-eq0 t c =
+    let a = c.args in
+    let e = ap (λ (x : Extent). x.count) (c.extent_in-all.ensures ∙ c.requires.4.entries a.p c.requires.0 (let l = c.requires.1 in omega arith)) in
+    (written_none (term_layout a.f.now a.k a.p) (sym e ∙ c.if-all-eq0.true), kept_none a.at c.requires.5, past_later a.at a.off c.requires.7 (omega arith) (omega arith))

@@ -21,7 +21,7 @@ abbrev pub decreases-term_written : goal.decreases-term_written
 decreases-term_written l = 2048 * l.k + 2 * l.p
 
 abbrev pub invariant-copies_written-loop-h : goal.invariant-copies_written-loop-h
-invariant-copies_written-loop-h l = ((to : List ℕ) → Written l.f l.initial.entries l.at to l.off (term_layout l.f l.k l.a) → (Written l.f l.entries l.at to l.off (copies_of l.h (term_layout l.f l.k l.a))) × (Written l.f l.entries l.at to l.off (term_layout l.f l.k l.a))) × (Kept l.initial.entries l.entries l.at) × (Past l.f l.entries (l.at + length (term_layout l.f l.k l.a).prims) (l.off + (term_layout l.f l.k l.a).size))
+invariant-copies_written-loop-h l = ((to : List ℕ) → Written l.f l.initial.entries l.at to l.off (term_layout l.f l.k l.a) → (Written l.f l.entries l.at to l.off (copies_of l.h (term_layout l.f l.k l.a))) × (Written l.f l.entries l.at to l.off (term_layout l.f l.k l.a))) × (Kept l.initial.entries l.entries l.at) × (Past l.f l.entries l.seen (l.at + length (term_layout l.f l.k l.a).prims) (l.off + (term_layout l.f l.k l.a).size))
 
 abbrev pub invariant-struct_written-loop-j : goal.invariant-struct_written-loop-j
-invariant-struct_written-loop-j l = (l.size ≡ (before l.f l.n l.number l.j).size) × (l.count ≡ length (before l.f l.n l.number l.j).prims) × (Written l.f l.entries l.at l.to l.off (before l.f l.n l.number l.j)) × (Kept l.initial.entries l.entries l.at) × (Past l.f l.entries (l.at + l.count) (l.off + l.size))
+invariant-struct_written-loop-j l = (l.size ≡ (before l.f l.n l.number l.j).size) × (l.count ≡ length (before l.f l.n l.number l.j).prims) × (Written l.f l.entries l.at l.to l.off (before l.f l.n l.number l.j)) × (Kept l.initial.entries l.entries l.at) × (Past l.f l.entries l.seen (l.at + l.count) (l.off + l.size))
