@@ -1,8 +1,6 @@
 -- What is remembered of runs: an answer for each distance into an object, none where nobody has asked. Assumes nothing.
-use Rattle.std.specs.Prelude.{◌≡◌, Bool, true, false, ◌≢◌, ℕ, ◌+◌, ◌*◌, ◌/◌, ◌%◌, ◌<◌, ◌≤◌, List, Option, Some, None, length, get_or, set, replicate}
-use Rattle.std.proofs.Common.{sym, ap, ◌∙◌, subst, ⊎_elim, arith, length-set, get_or-set_same, get_or-set_other}
-use Rattle.std.proofs.Math.Nat.{mod-le}
-use Rattle.std.proofs.Math.Decide.{ℕ_discrete}
+use Rattle.std.specs.Prelude.{◌≡◌, Bool, true, false, ◌≢◌, ℕ, ◌+◌, ◌*◌, ◌/◌, ◌%◌, ◌<◌, ◌≤◌, List, Option, Some, None, get_or, replicate}
+use Rattle.std.proofs.Common.{sym, ap, ◌∙◌, ⊎_elim, arith}
 use Rattle.std.proofs.Math.ListN.{get_or-eq_default, length-replicate}
 use Rattle.std.proofs.lemmas.List.{get_or-replicate}
 use Rattle.words.specs.Bytes.{Bytes}
@@ -54,21 +52,7 @@ module _ {f : Bytes} {u : ℕ} {p : Bytes} {t : ℕ} {q : Bytes} where
   pub remembers_none : (n : ℕ) → Remembers f u p t q (replicate n None)
   remembers_none n = remembers_nothing (forgotten n)
 
-  pub remembers_set : {m : List (Option Bool)} (o : ℕ) {b : Bool} → RunAtIs f u p o t q b → Remembers f u p t q m → Remembers f u p t q (set m o (Some b))
-  remembers_set {m} o {b} h r = record { each = λ j k c d. go j k c d (ℕ_discrete j o) }
-    where
-      go : (j : ℕ) → j < 256 → (c : Bool) → get_or (set m o (Some b)) j None ≡ Some c → Dec (j ≡ o) → RunAtIs f u p j t q c
-      go j k c d (yes e) =
-          ⊎_elim
-          (λ l. let g : get_or (set m o (Some b)) j None ≡ Some b = rw e (get_or-set_same m o (Some b) None l) in let s : b ≡ c = cc in let z : RunAtIs f u p j t q b = rw e h in subst (λ (x : Bool). RunAtIs f u p j t q x) s z)
-          (λ l. absurd (let g : get_or (set m o (Some b)) j None ≡ None = get_or-eq_default (set m o (Some b)) None (omega (arith, length-set m o (Some b))) in cc))
-          (lt_or_le o (length m))
-      go j k c d (no e) = r.each j k c (sym (get_or-set_other m o j (Some b) None e) ∙ d)
-
 -- ---- the place in a page, from the run
-
-pub rest_few : (x z : ℕ) → x < 256 → x % z < 256
-rest_few x z h = let l = mod-le x z in omega arith
 
 module _ {f : Bytes} {u z : ℕ} (w : SizeIs f u z) (p : Bytes) (x t : ℕ) (q : Bytes) where
   is : (k : RegionKind) → z ≡ (flat (module_of f) (sub (under {k = k} p) (entry_type f u))).size
