@@ -4,4 +4,4 @@ pub mod Known
 pub mod Same
 pub mod Scan
 pub mod Untyped
-pub mod Code
+pub mod Props

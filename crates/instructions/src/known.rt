@@ -5,7 +5,6 @@ ghost use Rattle.words.specs.Bytes.{Bytes};
 ghost use Rattle.instructions.specs.Plain.{themselves};
 ghost use Rattle.instructions.specs.Known.{run_key, run_stands, Remembered};
 ghost use Rattle.instructions.specs.Same.{same_prims};
-ghost use Rattle.instructions.specs.Code.{Tabled};
 
 use crate::code::Code;
 
@@ -37,7 +36,6 @@ fn themselves() -> [u8; 8]
 impl Code<'_, '_> {
     // Whether the run of term t stands at position d of term s, as they are written.
     pub fn run_known(&self, known: &mut [usize; RUNS], s: usize, d: u32, t: usize) -> bool
-        requires table { Tabled self.now }
         requires bytes { (s < 256) × (t < 256) }
         requires remembered { Remembered self.now.function.file.now known.old }
         ensures stands { result ≡ run_stands self.now.function.file.now s d t }
@@ -70,7 +68,6 @@ impl Code<'_, '_> {
     // Whether terms u and t have the same primitives, as they are written: as many, and the run of t from the first on. Most that are
     // compared are one term.
     pub fn same_known(&self, known: &mut [usize; RUNS], u: usize, t: usize) -> bool
-        requires table { Tabled self.now }
         requires bytes { (u < 256) × (t < 256) }
         requires remembered { Remembered self.now.function.file.now known.old }
         ensures same { result ≡ same_prims self.now.function.file.now u t }

@@ -8,7 +8,6 @@ ghost use Rattle.functions.specs.Functions.{place_limit, Known, function_at, ins
 ghost use Rattle.judgment.specs.Function.{keeps_rule};
 ghost use Rattle.instructions.specs.Plain.{Tight};
 ghost use Rattle.instructions.specs.Known.{Remembered};
-ghost use Rattle.instructions.specs.Code.{IsTight};
 
 use crate::code::Code;
 use crate::known::RUNS;
@@ -27,7 +26,6 @@ impl Code<'_, '_> {
         r: usize,
     ) -> bool
         requires known_file { Known self.now.function.file.now self.now.function.terms self.now.structs c starts.now }
-        requires tight { IsTight self.now }
         requires near { r < 2 ^ 32 }
         requires remembered { Remembered self.now.function.file.now known.old }
         ensures rule { result ≡ keeps_rule self.now.function (instruction_in self.now.function.file.now r) }

@@ -40,7 +40,7 @@ pub typed-requires : goal.typed-requires
 typed-requires c =
     let a = c.args in
     let p = c.requires in
-    record { known_file = p.fact_1; tight = record { table = p.fact_2; tight = p.fact_3 }; near = place_far a.f.now a.h (record_of a.f.now a.h) refl c.loop-i.invariant.byte p.fact_4 c.loop-i.i c.loop-i.r c.loop-i.invariant.place (omega (arith, c.instructions_of-count.ensures.1)); remembered = c.loop-i.invariant.remembered }
+    record { known_file = p.fact_1; near = place_far a.f.now a.h (record_of a.f.now a.h) refl c.loop-i.invariant.byte p.fact_4 c.loop-i.i c.loop-i.r c.loop-i.invariant.place (omega (arith, c.instructions_of-count.ensures.1)); remembered = c.loop-i.invariant.remembered }
 
 pub after-r-requires : goal.after-r-requires
 after-r-requires c =
