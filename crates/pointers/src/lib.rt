@@ -36,14 +36,15 @@ fn map_of(s: &[u8], k: u32) -> [u8; 7]
     requires { (length s.now ≡ state_bytes) × (k < most_frames) }
     ensures { result ≡ map_list s.now k }
 {
-    let a0 = entry(s, k, 0);
-    let a1 = entry(s, k, 1);
-    let a2 = entry(s, k, 2);
-    let a3 = entry(s, k, 3);
-    let a4 = entry(s, k, 4);
-    let a5 = entry(s, k, 5);
-    let a6 = entry(s, k, 6);
-    [a0, a1, a2, a3, a4, a5, a6]
+    [
+        entry(s, k, 0),
+        entry(s, k, 1),
+        entry(s, k, 2),
+        entry(s, k, 3),
+        entry(s, k, 4),
+        entry(s, k, 5),
+        entry(s, k, 6),
+    ]
 }
 
 // Whether the run of the target stands at address a, which may be any number.
