@@ -1,5 +1,5 @@
 // "spare bytes zero": behind the header, behind the frames, frames not in use, and in a frame what its function does not have.
-ghost use Rattle.std.specs.Prelude.{ℕ, ◌<◌};
+ghost use Rattle.std.specs.Prelude.{ℕ, ◌<◌, ◌≤◌, length};
 ghost use Rattle.rules.specs.Limits.{most_frames};
 ghost use Rattle.stack.specs.Tells.{Tells};
 ghost use Rattle.shape.specs.Zeros.{ZeroFrom};
@@ -9,15 +9,29 @@ use stack::untested::UntestedState;
 use state::Machine;
 use state::places::{frame_place, function_place, map_place, register_place};
 
-// The bytes from .. to - 1 are zero: past the last a byte is 0. (No byte ends the loop, so that many are compared at once.)
-pub fn zero(s: &[u8], from: usize, to: usize) -> bool
+// The bytes from .. to - 1 are zero, of those that there are. (No byte ends the loop, so that many are compared at once.)
+fn zero_in(s: &[u8], from: usize, to: usize) -> bool
+    requires { to ≤ length s.now }
     ensures { Tells result ((i : ℕ) → i < to → ZeroFrom s.now from i) }
 {
     let mut all = true;
-    for i in from..to.min(s.len()) {
+    for i in from..to {
         all = all & (s[i] == 0);
     }
     all
+}
+
+// The bytes from .. to - 1 are zero: past the last a byte is 0. (Two calls, and not one up to `to.min(n)`: how many bytes a caller asks for
+// is then known where it is compiled, as 32 of a page's marks are, and no loop is left of them.)
+pub fn zero(s: &[u8], from: usize, to: usize) -> bool
+    ensures { Tells result ((i : ℕ) → i < to → ZeroFrom s.now from i) }
+{
+    let n = s.len();
+    if to <= n {
+        zero_in(s, from, to)
+    } else {
+        zero_in(s, from, n)
+    }
 }
 
 // A frame in use: registers and map entries that its function does not have, and its last bytes.
