@@ -2,11 +2,11 @@
 // width comes with it as a mask m, so that wrapping is one `and`. Operations take both in one number v, and take apart what they need.
 #![tactic(auto)]
 
-ghost use Rattle.std.specs.Prelude.{◌≡◌, ℕ, ◌+◌, ◌-◌, ◌%◌, ◌/◌, ◌*◌, ◌^◌, ◌≤◌, ◌<◌, ltb};
+ghost use Rattle.std.specs.Prelude.{MatchOption, ◌≡◌, ℕ, ◌+◌, ◌-◌, ◌%◌, ◌/◌, ◌*◌, ◌^◌, ◌≤◌, ◌<◌, ltb};
 ghost use Rattle.words.specs.Widths.{IsWidth};
 ghost use Rattle.rules.specs.Limits.{no_quotient};
 ghost use Rattle.rules.specs.Arithmetic.{value, cut, flag, value_if, left_by, right_by, magnitude, nearest_by, negative, biased, operation_of, operated, sign_extended};
-ghost use Rattle.arithmetic.specs.Meaning.{computed_of, operation_number, width_in, mask_in, Sized};
+ghost use Rattle.arithmetic.specs.Meaning.{computed_of, answer_of, operation_number, width_in, mask_in, Sized};
 
 use rules::stop::Stop;
 
@@ -32,6 +32,31 @@ pub enum Operation {
     Equal,
     Less,
     LessSigned,
+}
+
+impl Operation {
+    // The operation with this number, if there is one.
+    fn numbered(op: u32) -> Option<Operation>
+        ensures { MatchOption result (14 ≤ op) (λ o. operation_number o ≡ op) }
+    {
+        match op {
+            0 => Some(Operation::Add),
+            1 => Some(Operation::Subtract),
+            2 => Some(Operation::Multiply),
+            3 => Some(Operation::And),
+            4 => Some(Operation::Or),
+            5 => Some(Operation::Xor),
+            6 => Some(Operation::ShiftLeft),
+            7 => Some(Operation::ShiftRight),
+            8 => Some(Operation::Quotient),
+            9 => Some(Operation::Remainder),
+            10 => Some(Operation::Nearest),
+            11 => Some(Operation::Equal),
+            12 => Some(Operation::Less),
+            13 => Some(Operation::LessSigned),
+            _ => None,
+        }
+    }
 }
 
 fn width_in(v: u64) -> u64
@@ -225,7 +250,7 @@ fn less(v: u64, x: u32, y: u32) -> bool
 
 // An operation on two integers of the width that v has.
 #[tactic(auto, unfolding(rules::specs::Arithmetic::operation_of, rules::specs::Arithmetic::operated))]
-pub fn compute(operation: Operation, v: u64, x: u32, y: u32) -> Result<u32, Stop>
+pub fn perform(operation: Operation, v: u64, x: u32, y: u32) -> Result<u32, Stop>
     requires { Sized v × (y < 256 ^ width_in v) }
     ensures { computed_of result ≡ operated (operation_of (operation_number operation)) (width_in v) x y }
 {
@@ -244,6 +269,17 @@ pub fn compute(operation: Operation, v: u64, x: u32, y: u32) -> Result<u32, Stop
         Operation::Equal => Ok(flag(x == y)),
         Operation::Less => Ok(flag(x < y)),
         Operation::LessSigned => Ok(flag(less(v, x, y))),
+    }
+}
+
+// Operation number op, if there is one, on two integers of the width that v has.
+pub fn compute(op: u32, v: u64, x: u32, y: u32) -> Option<Result<u32, Stop>>
+    requires { Sized v × (y < 256 ^ width_in v) }
+    ensures { answer_of result ≡ operated (operation_of op) (width_in v) x y }
+{
+    match Operation::numbered(op) {
+        Some(operation) => Some(perform(operation, v, x, y)),
+        None => None,
     }
 }
 

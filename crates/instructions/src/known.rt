@@ -2,6 +2,7 @@
 // by a number that has both terms and the position; whoever asks for one that is not remembered has it compared.
 ghost use Rattle.std.specs.Prelude.{◌≡◌, ◌<◌};
 ghost use Rattle.words.specs.Bytes.{Bytes};
+ghost use Rattle.positions.specs.Table.{Table};
 ghost use Rattle.instructions.specs.Plain.{themselves};
 ghost use Rattle.instructions.specs.Known.{run_key, run_stands, Remembered};
 ghost use Rattle.instructions.specs.Same.{same_prims};
@@ -33,36 +34,45 @@ fn themselves() -> [u8; 8]
     [0, 1, 2, 3, 4, 5, 6, 7]
 }
 
+// Whether the run of term t stands at position d of term s, as they are written.
+pub fn run_known(
+    f: &[u8],
+    n: usize,
+    k: usize,
+    tab: &[u64],
+    known: &mut [usize; RUNS],
+    s: usize,
+    d: u32,
+    t: usize,
+) -> bool
+    requires fact_1 { Table f.now n k tab.now }
+    requires fact_2 { (s < 256) × (t < 256) }
+    requires fact_3 { Remembered f.now known.old }
+    ensures { (result ≡ run_stands f.now s d t) × (Remembered f.now known.new) }
+{
+    let key = run_key(s, d, t);
+    let i = key % RUNS;
+    if known[i] == key {
+        return true;
+    }
+    let same = themselves();
+    let stands = runs::run_from(f, n, k, s, &same, d as usize, t, &same, tab);
+    if stands {
+        known[i] = key;
+    }
+    stands
+}
+
 impl Code<'_, '_> {
-    // Whether the run of term t stands at position d of term s, as they are written.
+    // The same, in the code's file.
     pub fn run_known(&self, known: &mut [usize; RUNS], s: usize, d: u32, t: usize) -> bool
         requires bytes { (s < 256) × (t < 256) }
         requires remembered { Remembered self.now.function.file.now known.old }
         ensures stands { result ≡ run_stands self.now.function.file.now s d t }
         ensures remembered { Remembered self.now.function.file.now known.new }
     {
-        let key = run_key(s, d, t);
-        let i = key % RUNS;
-        if known[i] == key {
-            return true;
-        }
-        let same = themselves();
         let f = self.function;
-        let stands = runs::run_from(
-            f.file,
-            f.terms,
-            self.structs,
-            s,
-            &same,
-            d as usize,
-            t,
-            &same,
-            self.table,
-        );
-        if stands {
-            known[i] = key;
-        }
-        stands
+        run_known(f.file, f.terms, self.structs, self.table, known, s, d, t)
     }
 
     // Whether terms u and t have the same primitives, as they are written: as many, and the run of t from the first on. Most that are

@@ -11,7 +11,7 @@ ghost use Rattle.judgment.specs.Registers.{is_register, is_integer, is_pointer, 
 ghost use Rattle.judgment.specs.Function.{in_file};
 
 use crate::function::Function;
-use crate::types::{OPERANDS, RegisterType, description};
+use crate::types::{RegisterType, entry};
 use functions::readers::register_term;
 
 // The region of the type of register a, where it is a pointer.
@@ -26,17 +26,11 @@ pub fn region_of(f: &[u8], n: usize, h: usize, a: usize) -> u8
 }
 
 impl Function<'_> {
-    // The type of register a, from the table where it is there.
+    // The type of register a.
     pub fn entry(&self, a: usize) -> RegisterType
         ensures { Describes self.now.file.now self.now.head a result }
     {
-        if a < OPERANDS {
-            let e = self.types[a];
-            if e.form != 0 {
-                return e;
-            }
-        }
-        description(self.file, self.terms, self.head, a)
+        entry(self.file, self.terms, self.head, self.types, a)
     }
 
     pub fn is_integer(&self, a: usize) -> bool

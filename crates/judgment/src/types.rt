@@ -88,3 +88,25 @@ pub fn types_of(f: &[u8], n: usize, h: usize) -> [RegisterType; OPERANDS]
     }
     types
 }
+
+// The type of register a, from the table where it is there.
+pub fn entry(
+    f: &[u8],
+    n: usize,
+    h: usize,
+    types: &[RegisterType; OPERANDS],
+    a: usize,
+) -> RegisterType
+    requires fact_1 { Terms f.now n }
+    requires fact_2 { h < place_limit }
+    requires fact_3 { Described f.now h types.now }
+    ensures { Describes f.now h a result }
+{
+    if a < OPERANDS {
+        let e = types[a];
+        if e.form != 0 {
+            return e;
+        }
+    }
+    description(f, n, h, a)
+}

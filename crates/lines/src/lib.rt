@@ -72,13 +72,19 @@ pub fn pair_line(out: &mut [u8], at: usize, word: &[u8], x: u64, y: u64) -> usiz
 }
 
 // `refused`, number, place.
-pub fn refused_line(out: &mut [u8], at: usize, e: Refusal) -> usize
+pub fn refused_line(out: &mut [u8], at: usize, number: u64, place: u64) -> usize
+    requires { at + most_line ≤ length out.old }
+    ensures { Puts out.old out.new at result (refused_line number place) × (result ≤ at + most_line) }
+{
+    pair_line(out, at, b"refused", number, place)
+}
+
+// The line of a refusal.
+pub fn refusal_line(out: &mut [u8], at: usize, e: Refusal) -> usize
     requires { at + most_line ≤ length out.old }
     ensures { Puts out.old out.new at result (refused_line (number_of e) (place_of e)) × (result ≤ at + most_line) }
 {
-    let number = u64::from(e.number());
-    let place = e.place() as u64;
-    pair_line(out, at, b"refused", number, place)
+    refused_line(out, at, u64::from(e.number()), e.place() as u64)
 }
 
 // `running`, steps.
@@ -111,6 +117,6 @@ pub fn verdict_line(out: &mut [u8], at: usize, v: Result<Counts, Refusal>) -> us
 {
     match v {
         Ok(counts) => accepted_line(out, at, counts),
-        Err(e) => refused_line(out, at, e),
+        Err(e) => refusal_line(out, at, e),
     }
 }

@@ -10,7 +10,7 @@ ghost use Rattle.lines.specs.Writing.{Puts, most_line};
 ghost use Rattle.report.specs.Report.{answer_line};
 
 use host::go::{Went, go};
-use lines::{pair_line, refused_line, running_line, verdict_line};
+use lines::{pair_line, refusal_line, running_line, verdict_line};
 use opening::open;
 use rules::Refusal;
 use run::Outcome;
@@ -33,7 +33,7 @@ fn went_line(out: &mut [u8], at: usize, w: Result<Went, Refusal>) -> usize
             Outcome::Stopped(number) => pair_line(out, at, b"stopped", u64::from(number), steps),
             Outcome::Running => running_line(out, at, steps),
         },
-        Err(e) => refused_line(out, at, e),
+        Err(e) => refusal_line(out, at, e),
     }
 }
 
