@@ -15,7 +15,9 @@ use Rattle.rules.specs.declared.Record.{Record}
 use Rattle.walk.specs.Tables.{starts_of, start_below}
 use Rattle.walk.specs.Code.{registers_far, skip_far}
 use Rattle.typing.specs.Walk.{skip, skip_suc, place_at}
-use Rattle.terms.specs.Extents.{Counted}
+use Rattle.std.proofs.Math.Nat.{ℕ_set}
+use Rattle.std.specs.Coded.{le_prop}
+use Rattle.terms.specs.Extents.{Terms, Counted}
 use Rattle.terms.specs.Readers.{entry_type}
 
 -- what refusals 1 to 4 have established of file f: n terms, k structs, c functions, and where the functions start
@@ -25,6 +27,10 @@ pub record Known (f : Bytes) (n k c : ℕ) (heads : List ℕ) : Type 0 where
   pub few : c ≤ most_functions
   pub starts : heads ≡ starts_of f
   pub short : length f ≤ most_blocks * block_bytes
+
+-- what is known of the terms has one proof at most, as the invariant of a struct must
+pub terms_prop : (f : Bytes) (n : ℕ) → IsProp (Terms f n)
+terms_prop f n d g = λ i. record { are = ℕ_set _ _ d.are g.are i; few = le_prop d.few g.few i }
 
 -- every record of such a file stands before this one
 abbrev pub place_limit : ℕ

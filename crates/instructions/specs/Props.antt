@@ -19,7 +19,7 @@ use Rattle.terms.specs.Extents.{Counted}
 use Rattle.positions.specs.declared.Core.{Core}
 use Rattle.positions.specs.declared.Core.TheVariants.{Term, Fields}
 use Rattle.positions.specs.Table.{Table, Bare, InStruct, NoStruct, CoreIs, core_at}
-use Rattle.judgment.specs.Types.{terms_prop}
+use Rattle.functions.specs.Functions.{terms_prop}
 use Rattle.instructions.specs.Plain.{Tight}
 
 -- ---- the table

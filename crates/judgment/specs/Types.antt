@@ -21,7 +21,7 @@ use Rattle.terms.specs.Heads.{place_of, tree_at}
 use Rattle.terms.specs.Extents.{Terms}
 use Rattle.terms.specs.ExtentLaws.{module_term}
 use Rattle.terms.specs.Compare.{tree_same}
-use Rattle.functions.specs.Functions.{function_at, place_limit}
+use Rattle.functions.specs.Functions.{function_at, place_limit, terms_prop}
 use Rattle.judgment.specs.Registers.{guarded, int_of, is_register, is_integer, is_pointer, is_untyped, has_width}
 
 -- ---- a register's type
@@ -57,9 +57,6 @@ pub record IsFunction (f : Bytes) (n h : ℕ) (types : List RegisterType) : Type
   pub terms : Terms f n
   pub below : h < place_limit
   pub described : Described f h types
-
-pub terms_prop : (f : Bytes) (n : ℕ) → IsProp (Terms f n)
-terms_prop f n d g = λ i. record { are = ℕ_set _ _ d.are g.are i; few = le_prop d.few g.few i }
 
 module _ (f : Bytes) (h : ℕ) where
   describes_prop : (a : ℕ) (e : RegisterType) → IsProp (Describes f h a e)

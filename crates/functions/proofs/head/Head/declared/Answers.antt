@@ -1,8 +1,8 @@
--- `functions::declared::declared` meets its contract: by the callees' contracts.
+-- `functions::head::Head::declared` meets its contract: by the callees' contracts.
 use mathlib.Core.Path.{ap₂}
 use mathlib.Core.Bool.{◌&&◌}
-use Rattle.functions.specs.Declared.{declared}
-use Rattle.functions.proofs.declared.declared.Goals as goal
+use Rattle.functions.specs.Declares.{declared}
+use Rattle.functions.proofs.head.Head.declared.Goals as goal
 
 pub returns : goal.returns
 unfolding declared
