@@ -5,25 +5,21 @@ use Rattle.std.specs.Prelude.{List, Option, None, Some, Bool, true, false, ◌�
 use Rattle.words.specs.Bytes.{Bytes, AllBytes}
 use Rattle.rules.specs.Limits.{page_bytes}
 use Rattle.rules.specs.Types.{variable, live, Variable, Region, Tree, int, ptr, arr, struct, raw_ptr, bytes, form, number_of, inner, region_of, width, sub}
-use Rattle.rules.specs.Flat.{flat}
 use Rattle.rules.specs.Decode.{module_of}
 use Rattle.rules.specs.State.{view, page_owner, memory_byte, memory_number}
 use Rattle.rules.specs.Heap.{Stands, dec_stands, InUntyped, Value}
 use Rattle.state.specs.Reads.{memory_lt}
 use Rattle.terms.specs.Compare.{byte_under, under, under_is}
 use Rattle.equality.specs.Equal.{places_same}
-use Rattle.terms.specs.Readers.{Inner, entry_type}
 use Rattle.terms.specs.Heads.{place_of}
-use Rattle.terms.specs.Extents.{Small, Terms}
-use Rattle.terms.specs.declared.Extent.{Extent}
-use Rattle.positions.specs.Table.{exact_of}
+use Rattle.terms.specs.Extents.{Terms}
 use Rattle.runs.specs.Runs.{StandsIs, UntypedIs}
 use Rattle.stack.specs.Tells.{Tells, tells_map, tells_yes, tells_no, does_tells}
 use Rattle.objects.specs.Homes.{HomeIs, StandsAt}
 use Rattle.objects.specs.declared.Home.{Home}
 use Rattle.positions.specs.Maps.{Narrow, map_list}
 use Rattle.registers.specs.Value.{typing_of, value_int, value_ptr, value_raw, type_some, stands_none, untyped_none, untyped_some}
-use Rattle.memo.specs.Memo.{SizeIs, Remembers, Forgotten, remembers_nothing, same_tree}
+use Rattle.memo.specs.Memo.{SizeIs, Remembers, same_tree}
 use Rattle.values.specs.declared.memory.Target.{Target}
 use Rattle.values.specs.declared.memory.Target.TheVariants.{Nowhere, Untyped, Run}
 use Rattle.values.specs.declared.memory.Aim.{Aim}
@@ -117,27 +113,6 @@ abbrev pub TargetIs : Bytes → Bytes → ℕ → Bytes → ℕ → Target → T
 TargetIs f s n to t Nowhere = ToNone f s n to t
 TargetIs f s n to t (Untyped region h many) = ToBytes f s n to t region h many
 TargetIs f s n to t (Run region h map z run) = ToRun f s n to t region h map z run
-
-module _ {f s : Bytes} {n : ℕ} {to : Bytes} {t u r w : ℕ} (eu : u ≡ (region_of ((module_of f).term t)).number) (er : r ≡ byte_under to u) (ew : w ≡ r) where
-  pub target_none : Points f t → HomeIs f s n w None → TargetIs f s n to t Nowhere
-  target_none points dead = let e : w ≡ region_under f to t = ew ∙ er ∙ ap (byte_under to) eu in record { points = points; dead = rw e at dead }
-
-  pub target_bytes : {h : Home} {k many : ℕ} → HomeIs f s n w (Some h) → k ≡ form ((module_of f).term t) → k ≡ 11 → many ≡ number_of ((module_of f).term t)
-      → TargetIs f s n to t (Untyped r h many)
-  target_bytes home ek e em = record { raw = sym ek ∙ e; number = em; under = er ∙ ap (byte_under to) eu; home = rw ew at home }
-
-  pub target_run : {h : Home} {k run : ℕ} {map : Bytes} {e : Extent} → Points f t → HomeIs f s n w (Some h) → k ≡ form ((module_of f).term t) → k ≢ 11 → map ≡ map_list s h.frame
-      → (e ≡ exact_of (flat (module_of f) (entry_type f h.entry))) × Small e → Inner f ((module_of f).term t) run → TargetIs f s n to t (Run r h map e.size run)
-  target_run points home ek d em ee i =
-      let two : form ((module_of f).term t) ≡ 2 = ⊎_elim (λ e. e) (λ e. absurd (d (ek ∙ e))) points in
-      record {
-        typed = two;
-        inside = i.pointer two;
-        under = er ∙ ap (byte_under to) eu;
-        home = rw ew at home;
-        map_is = em;
-        size = record { is = ap (λ (x : Extent). x.size) ee.0; small = ee.1.0 };
-      }
 
 -- ---- an aim, and what is remembered of its runs
 
@@ -249,12 +224,3 @@ pub record AimsAt (f s : Bytes) (n : ℕ) (to : Bytes) (t : ℕ) (a : Aim) (m : 
 pub aim_same : {f s : Bytes} {n : ℕ} {to : Bytes} {t : ℕ} {a : Aim} {m : List (Option Bool)} {terms x y : ℕ} {b : Bool} → AimHolds f s n a m → Terms f terms → x ≡ place_of terms a.t → y ≡ place_of terms t
     → (b ≡ places_same variable f x a.to y to) × (b ≡ places_same live f x a.to y to) → b ≡ true → AimsAt f s n to t a m
 aim_same {f} {to = to} {t = t} {a = a} w terms ex ey e h = record { holds = w; same = same_tree live f a.t t a.to to terms ex ey (sym e.1 ∙ h) }
-
-pub aim_new : {f s : Bytes} {n : ℕ} {to : Bytes} {t : ℕ} {g : Target} {m : List (Option Bool)} → TargetIs f s n to t g → Forgotten m
-    → AimsAt f s n to t (record { t = t; to = to; target = g }) m
-aim_new {f} {to = to} {g = g} {m = m} is w = record { holds = record { target = is; remembers = go g }; same = refl }
-  where
-    go : (g : Target) → Remembered f to g m
-    go Nowhere = tt
-    go (Untyped region h many) = tt
-    go (Run region h map z run) = remembers_nothing w
