@@ -7,6 +7,7 @@ pub mod Stages
 pub mod File
 pub mod Types
 pub mod Module
+pub mod Kinds
 pub mod Flat
 pub mod Walk
 pub mod Operands

@@ -1,7 +1,8 @@
-// The types that the definitions of specs/ and the code share, document 01's numbers (limits), why a file or a call is refused (refusal), and
-// why a module stops (stop).
+// The types that the definitions of specs/ and the code share, document 01's numbers (limits), the kinds of instructions (kind), why a file or
+// a call is refused (refusal), and why a module stops (stop).
 #![tactic(auto)]
 
+pub mod kind;
 pub mod limits;
 pub mod refusal;
 pub mod stop;

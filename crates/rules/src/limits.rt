@@ -2,6 +2,8 @@
 // name has its name of specs/Limits.antt and specs/File.antt here. The machine's own, pages, frames, sizes and the state's layout, are
 // constants of state's Machine.
 
+use crate::kind::Kind;
+
 // ---- the module file
 
 // "1 to 64 blocks of 512 bytes"
@@ -69,28 +71,28 @@ pub const REGIONS: u8 = 8;
 pub const REGISTERS: u8 = 9;
 
 // The ranges of instructions: arithmetic 16 to 22, memory 23 to 28, control 29 to 34; of untyped memory 36 to 39.
-pub const FIRST_ARITHMETIC: u8 = 16;
+pub const FIRST_ARITHMETIC: u8 = Kind::Constant as u8;
 
-pub const LAST_ARITHMETIC: u8 = 22;
+pub const LAST_ARITHMETIC: u8 = Kind::Check as u8;
 
-pub const FIRST_MEMORY: u8 = 23;
+pub const FIRST_MEMORY: u8 = Kind::Field as u8;
 
-pub const LAST_MEMORY: u8 = 28;
+pub const LAST_MEMORY: u8 = Kind::Free as u8;
 
-pub const FIRST_CONTROL: u8 = 29;
+pub const FIRST_CONTROL: u8 = Kind::Input as u8;
 
-pub const LAST_CONTROL: u8 = 34;
+pub const LAST_CONTROL: u8 = Kind::Return as u8;
 
-pub const FIRST_UNTYPED: u8 = 36;
+pub const FIRST_UNTYPED: u8 = Kind::NewBytes as u8;
 
-pub const LAST_UNTYPED: u8 = 39;
+pub const LAST_UNTYPED: u8 = Kind::CheckBytes as u8;
 
 // "31 jump", "33 calls", "34 returns", "record 35 follows"
-pub const JUMP: u8 = 31;
+pub const JUMP: u8 = Kind::Jump as u8;
 
-pub const CALL: u8 = 33;
+pub const CALL: u8 = Kind::Call as u8;
 
-pub const RETURN: u8 = 34;
+pub const RETURN: u8 = Kind::Return as u8;
 
 pub const ARGUMENTS: u8 = 35;
 
