@@ -7,6 +7,7 @@ ghost use Rattle.judgment.specs.Function.{in_file, keeps_rule};
 
 use crate::function::Function;
 use rules::Record;
+use rules::kind::Kind;
 
 // d fits w bytes.
 pub fn fits(d: u32, w: usize) -> bool
@@ -86,14 +87,12 @@ impl Function<'_> {
         let a = usize::from(x.a);
         let b = usize::from(x.b);
         let c = usize::from(x.c);
-        // by document 01's numbers, as the definition `arithmetic_of` chooses
-        match x.kind {
-            16 => self.constant(a, x.d),
-            17 => self.copy(a, b),
-            18 => self.operate(x.d, a, b, c),
-            19 => self.extend(a, b),
-            20 => self.extend(a, b),
-            21 => self.address(a, b),
+        match Kind::of(x.kind).unwrap_or(Kind::Check) {
+            Kind::Constant => self.constant(a, x.d),
+            Kind::Copy => self.copy(a, b),
+            Kind::Operate => self.operate(x.d, a, b, c),
+            Kind::ZeroExtend | Kind::SignExtend => self.extend(a, b),
+            Kind::Address => self.address(a, b),
             _ => self.check(a, b),
         }
     }

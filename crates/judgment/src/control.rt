@@ -8,6 +8,7 @@ ghost use Rattle.judgment.specs.Kinds.{call_at};
 ghost use Rattle.judgment.specs.Function.{in_file, keeps_rule};
 
 use crate::function::Function;
+use rules::kind::Kind;
 use rules::limits::CALLEES;
 
 impl Function<'_> {
@@ -66,13 +67,12 @@ impl Function<'_> {
     {
         let x = walk::file::record_at(self.file, r);
         let a = usize::from(x.a);
-        // by document 01's numbers, as the definition `control_of` chooses
-        match x.kind {
-            29 => self.input(a, usize::from(x.c)),
-            30 => self.output(usize::from(x.b)),
-            31 => self.jump(x.d),
-            32 => self.branch(a, x.d),
-            33 => self.call(k, c, starts, r),
+        match Kind::of(x.kind).unwrap_or(Kind::Return) {
+            Kind::Input => self.input(a, usize::from(x.c)),
+            Kind::Output => self.output(usize::from(x.b)),
+            Kind::Jump => self.jump(x.d),
+            Kind::Branch => self.branch(a, x.d),
+            Kind::Call => self.call(k, c, starts, r),
             _ => self.returned(a),
         }
     }
