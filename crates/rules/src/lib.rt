@@ -1,5 +1,5 @@
-// The types that the definitions of specs/ and the code share, document 01's numbers (limits), the kinds of instructions (kind), why a file or
-// a call is refused (refusal), and why a module stops (stop).
+// The types that the definitions of specs/ and the code share, document 01's numbers (limits), the kinds of instructions (kind), why a
+// file or a call is refused (refusal), and why a module stops (stop).
 #![tactic(auto)]
 
 pub mod kind;

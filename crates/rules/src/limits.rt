@@ -1,8 +1,9 @@
-// The numbers of document 01 that the code shares, each once: those of the module file and of stops. What the definitions
-// name has its name of specs/Limits.antt and specs/File.antt here. The machine's own, pages, frames, sizes and the state's layout, are
-// constants of state's Machine.
+// The numbers of document 01 that the code shares, each once: those of the module file; those of instructions and of stops by their
+// enums. What the definitions name has its name of specs/Limits.antt and specs/File.antt here. The machine's own, pages, frames, sizes
+// and the state's layout, are constants of state's Machine.
 
 use crate::kind::Kind;
+use crate::stop::Stop;
 
 // ---- the module file
 
@@ -50,6 +51,8 @@ pub const CALLEES: usize = 256;
 
 // ---- the kinds of records
 
+// Constants, not an enum: the walk and the tests of records compare a byte with one of them, or with a range.
+
 pub const FILLER: u8 = 0;
 
 pub const INTEGER: u8 = 1;
@@ -70,7 +73,7 @@ pub const REGIONS: u8 = 8;
 
 pub const REGISTERS: u8 = 9;
 
-// The ranges of instructions: arithmetic 16 to 22, memory 23 to 28, control 29 to 34; of untyped memory 36 to 39.
+// The ranges of instructions, whose kinds are kind::Kind: arithmetic 16 to 22, memory 23 to 28, control 29 to 34; of untyped memory 36 to 39.
 pub const FIRST_ARITHMETIC: u8 = Kind::Constant as u8;
 
 pub const LAST_ARITHMETIC: u8 = Kind::Check as u8;
@@ -99,6 +102,6 @@ pub const ARGUMENTS: u8 = 35;
 // ---- stops
 
 // The lowest and the highest number of a stop; each has its name and its sentence in `stop::Stop`.
-pub const ZERO_ADDRESS: u8 = 31;
+pub const ZERO_ADDRESS: u8 = Stop::ZeroAddress as u8;
 
-pub const OUTPUT_FULL: u8 = 39;
+pub const OUTPUT_FULL: u8 = Stop::OutputFull as u8;
