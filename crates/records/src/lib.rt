@@ -64,7 +64,7 @@ pub fn first_fault(f: &[u8], t: Tables) -> Option<usize>
     let end = t.walk;
     let mut w = walk::step::start();
     let mut r = 0;
-    // (d) a `while`, as a turn passes over all instructions in a row
+    // a `while`: a turn passes over all instructions in a row
     while r < n {
         let p = w.phase;
         if walk::step::in_filler(p) {

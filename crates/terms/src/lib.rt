@@ -71,12 +71,6 @@ pub struct Live(pub u8);
 
 // ---- numbers
 
-pub fn wide(x: u8) -> usize
-    ensures { (result ≡ x) × (result < 256) }
-{
-    usize::from(x)
-}
-
 // Byte j of the number d, the lowest first; from 3 on the highest. (By `to_le_bytes` it would have to ask for the end of the eight.)
 pub fn digit(d: usize, j: usize) -> usize
     ensures { result ≡ digit d j }

@@ -7,12 +7,6 @@ ghost use Rattle.words.specs.Bytes.{byte_at, number, put, fill};
 ghost use Rattle.words.specs.Bits.{bit, with_bit};
 ghost use Rattle.words.specs.Widths.{width_of};
 
-pub fn wide(x: u8) -> u32
-    ensures { (result ≡ x) × (result < 256) }
-{
-    u32::from(x)
-}
-
 // The lowest byte of v.
 pub fn low(v: u32) -> u8
     ensures { result ≡ v % 256 }
