@@ -62,7 +62,8 @@ fn open_byte(s: &[u8], p: u32, from: usize) -> Option<usize>
     (from..Machine::MARK_BYTES).find(|i| s[at + *i] != 255)
 }
 
-// The lowest unused place of page p, or n, the number of its places; the places below from are used. (A byte of 255 is eight used places.)
+// The lowest unused place of page p, or n, the number of its places; the places below from are used. (A byte of 255 is eight used places.
+// It is a number and no Option, as the table of searches takes n as well.)
 fn lowest_place(s: &[u8], p: u32, from: u32, n: u32) -> u32
     requires { (length s.now ≡ state_bytes) × (p < pages) × (n ≤ page_bytes) × UsedBelow s.now p from }
     ensures { result ≡ unused_place (page_mark s.now) n 1 p }

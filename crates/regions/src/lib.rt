@@ -61,7 +61,7 @@ pub fn add_frames(
     c
 }
 
-// The lowest region that is not in a set of n regions.
+// The lowest region that is not in a set of n regions. (One of the first n + 1 is not: an Option would say what cannot be.)
 pub fn lowest_number(a: &[u8; SET], n: u32) -> u32
     requires { n < 255 }
     ensures { (result ≡ lowest_in a.now n) × (result ≤ n + 1) }
