@@ -15,7 +15,7 @@ ghost use Rattle.prepared.specs.Ready.{Ready};
 ghost use Rattle.effects.specs.Does.{Placed, Done, Here, ReadyFirst};
 
 use effects::Next;
-use effects::apply::stop;
+use effects::apply::stop_for;
 use effects::parts::{immediate_of, region_term, region_variable, register_b, target_term};
 use effects::registers::register;
 use rules::stop::Stop;
@@ -98,13 +98,13 @@ pub fn check(
 {
     let a = register(s, t, register_b(w));
     if a == 0 {
-        return stop(s, t, Stop::CheckFails);
+        return stop_for(s, t, Stop::CheckFails);
     }
     let x = code[t.at + 1];
     if stands_at(w, x, file, terms, structs, extents, s, t.frame, a) {
         Next::Put(a)
     } else {
-        stop(s, t, Stop::CheckFails)
+        stop_for(s, t, Stop::CheckFails)
     }
 }
 
@@ -115,7 +115,7 @@ pub fn check_bytes(w: u64, s: &mut [u8], t: Machine) -> Next
 {
     let z = register(s, t, register_b(w));
     if z == 0 {
-        return stop(s, t, Stop::CheckFails);
+        return stop_for(s, t, Stop::CheckFails);
     }
     let r = entry(s, t.frame, region_variable(w));
     let owner = state::total::owner(s, z / Machine::PAGE_BYTES);
@@ -123,6 +123,6 @@ pub fn check_bytes(w: u64, s: &mut [u8], t: Machine) -> Next
     if runs::in_untyped(Live(r), owner, UNTYPED, z, n) {
         Next::Put(z)
     } else {
-        stop(s, t, Stop::CheckFails)
+        stop_for(s, t, Stop::CheckFails)
     }
 }
