@@ -1,6 +1,6 @@
 -- The call that a frame stands at, on the bytes of file and state: the record of its instruction is a 33, its callee and its regions.
 -- Assumes nothing.
-use Rattle.std.specs.Prelude.{◌≡◌, Bool, cond, ◌&&◌, List, ℕ, suc, ◌+◌, ◌<◌, ◌^◌, eqb, ltb, length}
+use Rattle.std.specs.Prelude.{◌≡◌, Bool, cond, ◌&&◌, List, ℕ, suc, ◌+◌, ◌<◌, ◌^◌, eqb, ltb, length, zero, ◌/◌, ◌%◌}
 use Rattle.std.proofs.Math.Path.{refl, ap}
 use Rattle.std.proofs.Common.{sym, ◌∙◌, add-one, arith, ne_eqb}
 use mathlib.Core.Logic.{◌≢◌}
@@ -151,6 +151,24 @@ module _ (f s : Bytes) (k : ℕ) where
 
 -- ---- what the code's readers show
 
+pub byte_0 : (x : Record) {i : ℕ} → i ≡ 0 → x.d % 256 ≡ byte_of_d x i
+byte_0 x e = rw e
+
+pub byte_1 : (x : Record) {i : ℕ} → i ≡ 1 → x.d / 256 % 256 ≡ byte_of_d x i
+byte_1 x e = rw e
+
+pub byte_2 : (x : Record) {i : ℕ} → i ≡ 2 → x.d / 65536 % 256 ≡ byte_of_d x i
+byte_2 x e = rw e
+
+pub byte_3 : (x : Record) {i : ℕ} → i ≢ 0 → i ≢ 1 → i ≢ 2 → x.d / 16777216 ≡ byte_of_d x i
+byte_3 x {i} = go i
+  where
+    go : (i : ℕ) → i ≢ 0 → i ≢ 1 → i ≢ 2 → x.d / 16777216 ≡ byte_of_d x i
+    go zero a b c = absurd (a refl)
+    go (suc zero) a b c = absurd (b refl)
+    go (suc (suc zero)) a b c = absurd (c refl)
+    go (suc (suc (suc i))) a b c = refl
+
 pub leads_by : {s : Bytes} {k i v r q : ℕ} {x : Record} → v ≡ byte_of_d x i → r ≡ frame_map s k v → q ≡ frame_map s (k + 1) i → Tells (eqb q r) (Leads s k x i)
 leads_by {s} {k} {i} {v} {r} {q} {x} ev er eq =
     let e : q ≡ frame_map s (suc k) i = rw add-one at eq in
@@ -166,6 +184,9 @@ skip_more f r i e d = rw (add-one i, skip_suc f r i) (d ∙ ap (after f) e)
 
 pub skip_few : (f : Bytes) (r i : ℕ) {p : ℕ} → p ≡ skip f r i → r < 2 ^ 31 → i < 65536 → p < 2 ^ 32
 skip_few f r i e a b = omega (arith, skip_far f r i)
+
+pub skip_all : (f : Bytes) (r : ℕ) {i n p : ℕ} → p ≡ skip f r i → i ≡ n → p ≡ skip f r n
+skip_all f r e d = rw d at e
 
 pub place_few : (f : Bytes) (g : ℕ) {h r : ℕ} → length f < 2 ^ 32 → AllBytes f → h ≡ start_of f g → r ≡ code_at f h → r < 2 ^ 31
 place_few f g {h} {r} l all eh er = rw er (code_few f h all (rw eh (start_few f g l)))

@@ -3,11 +3,11 @@
 use Rattle.std.specs.Prelude.{◌≡◌, Bool, true, false, [], ◌∷◌, ◌++◌, ℕ, ◌+◌, ◌-◌, ◌<◌, ◌≤◌, Option, Some, None}
 use Rattle.std.specs.Option.{option_or}
 use Rattle.std.proofs.Math.Path.{refl, sym, ap, subst}
-use Rattle.std.proofs.Common.{◌∙◌, arith, below_more}
+use Rattle.std.proofs.Common.{◌∙◌, arith, below_more, lt-ltb, le-ltb}
 use Rattle.words.specs.Bytes.{Bytes, list_of}
 use Rattle.words.specs.First.{first}
 use Rattle.words.specs.FirstLaws.{first_le, first_before, first_fails, first_is}
-use Rattle.rules.specs.Stages.{Stage, verdict}
+use Rattle.rules.specs.Stages.{Stage, verdict, failure}
 use Rattle.rules.specs.Decode.{module_of, start_of, instruction_at}
 use Rattle.rules.specs.Module.{Function}
 use Rattle.rules.specs.Walk.{whole}
@@ -22,6 +22,14 @@ use Rattle.records.specs.Checked.{checked_of, checked_verdict}
 use Rattle.instructions.specs.Scan.{typed_from}
 
 -- one stage, and v behind it
+pub stage_passes : (s : Stage) (v : Verdict) {p : ℕ} → p ≡ failure s → s.count ≤ p → v ≡ verdict (s ∷ []) v
+unfolding verdict
+stage_passes s v {p} e h = rw (le-ltb (failure s) s.count (rw e at h))
+
+pub stage_refuses : (s : Stage) (v : Verdict) {p : ℕ} → p ≡ failure s → p < s.count → verdicts.Refused (s.number p) (s.place p) ≡ verdict (s ∷ []) v
+unfolding verdict
+stage_refuses s v {p} e h = rw (← e, lt-ltb p s.count h)
+
 stage_passed : (s : Stage) (v : Verdict) → Passed ≡ outcome (s ∷ []) → v ≡ verdict (s ∷ []) v
 stage_passed s v e = sym (verdict_outcome (s ∷ []) v ∙ ap (λ (o : Outcome). and_then o v) (sym e))
 

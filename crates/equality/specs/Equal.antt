@@ -1,19 +1,19 @@
 -- Terms compared under substitutions: what the code compares of two heads, and that this decides whether the trees are equal. Assumes
 -- nothing.
-use Rattle.std.specs.Prelude.{◌≡◌, Bool, true, false, ◌&&◌, ◌||◌, not, List, map, ℕ, zero, suc, ◌+◌, ◌<◌, ltb, length, get_or}
+use Rattle.std.specs.Prelude.{◌≡◌, Bool, true, false, ◌&&◌, ◌||◌, not, List, map, ℕ, zero, suc, ◌+◌, ◌<◌, ltb, length, get_or, set}
 use Rattle.std.proofs.Math.Path.{refl, sym, ap, ap₂}
-use Rattle.std.proofs.Common.{◌∙◌, ⊎_elim, arith, eq-eqb, eqb-true, ne_eqb, ltb-true, ltb-false}
+use Rattle.std.proofs.Common.{◌∙◌, ⊎_elim, arith, eq-eqb, eqb-true, ne_eqb, ltb-true, ltb-false, get_or-set_same, get_or-set_other}
 use Rattle.std.proofs.Math.Bool.{and-true, and_comm}
 use Rattle.std.proofs.Math.Decide.{ℕ_discrete}
 use Rattle.std.proofs.Math.Dec.{eqb}
 use Rattle.std.proofs.lemmas.Bool.{eqb-false}
 use Rattle.words.specs.Bytes.{Bytes, AllBytes, list_of}
 use Rattle.words.specs.ByteLaws.{length_list_of, get_d_list_of, list_of_agree, map_list_from}
-use Rattle.words.specs.Choose.{bool_same, both, both_of, either, neither}
+use Rattle.words.specs.Choose.{bool_same, both, both_of, either, neither, lt_or_le}
 use Rattle.words.specs.First.{all_below}
 use Rattle.words.specs.FirstLaws.{all_holds, all_from}
 use Rattle.words.specs.Decide.{does, does_true, dec_list, true_does}
-use Rattle.rules.specs.Types.{RegionKind, variable, Region, region, dec_region, Tree, int, ptr, arr, struct, raw_ptr, sub, form, number_of, inner, region_of, args, dec_tree}
+use Rattle.rules.specs.Types.{RegionKind, variable, Region, region, dec_region, Tree, int, ptr, arr, struct, raw_ptr, sub, form, number_of, inner, region_of, args, dec_tree, nowhere}
 use Rattle.rules.specs.Decode.{module_of}
 use Rattle.terms.specs.declared.Head.{Head}
 use Rattle.terms.specs.declared.Head.TheVariants.{Int, Ptr, Arr, Struct, Untyped}
@@ -225,6 +225,16 @@ places_terms k f n h a p b q =
 -- ---- the identity
 
 -- the first n bytes stand for themselves
+abbrev pub IdentityTo : Bytes → ℕ → Type 0
+IdentityTo p n = (v : ℕ) → v < n → byte_under p v ≡ v
+
+pub identity_more : (p : Bytes) (n v : ℕ) → n < length p → v ≡ n → IdentityTo p n → IdentityTo (set p n v) (n + 1)
+identity_more p n v l e h i m = ⊎_elim
+    (λ lt. get_or-set_other p n i v nowhere (λ w. omega arith) ∙ h i lt)
+    (λ le. let w : i ≡ n = omega arith in rw w (get_or-set_same p n v nowhere l ∙ e))
+    (lt_or_le i n)
+
+-- every byte stands for itself
 abbrev pub Identity : Bytes → Type 0
 Identity p = (v : ℕ) → v < 256 → byte_under p v ≡ v
 

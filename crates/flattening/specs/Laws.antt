@@ -1,5 +1,5 @@
 -- Terms written out: an entry, one layout after another, copies and fields. Assumes nothing.
-use Rattle.std.specs.Prelude.{◌≡◌, List, Option, Some, None, ℕ, suc, ◌+◌, ◌-◌, ◌*◌, ◌≤◌, ◌<◌, length, get_or, set, replicate}
+use Rattle.std.specs.Prelude.{◌≡◌, List, Option, Some, None, ℕ, suc, ◌+◌, ◌-◌, ◌*◌, ◌≤◌, ◌<◌, length, get_or, set, replicate, ◌≢◌, [], ◌∷◌, zero}
 use Rattle.std.proofs.Math.Path.{refl, ap}
 use Rattle.std.proofs.Common.{sym, ◌∙◌, subst, ⊎_elim, add_comm, mul-le-mul_right, arith, length-set, get_or-set_same, get_or-set_other}
 use Rattle.std.proofs.Math.Decide.{ℕ_discrete}
@@ -7,7 +7,7 @@ use Rattle.std.proofs.Math.ListN.{get_or-eq_default}
 use Rattle.std.proofs.lemmas.List.{length-replicate, get_or-replicate}
 use Rattle.words.specs.Bytes.{Bytes}
 use Rattle.words.specs.Choose.{lt_or_le}
-use Rattle.rules.specs.Types.{RegionKind, variable, int, sub, arg}
+use Rattle.rules.specs.Types.{RegionKind, variable, int, sub, arg, nowhere}
 use Rattle.rules.specs.Flat.{Placed, at as placed, Layout, count, single, moved, packed, copies_of, placed_in, sub_layout}
 use Rattle.layout.specs.Prims.{nth, moved_moved, placed_moved, count_packed, count_copies_of, size_copies_of}
 use Rattle.layout.specs.Runs.{nth_left, nth_right, nth_copies as nth-copy}
@@ -36,6 +36,12 @@ module _ {entries : List Primitive} (room : Room entries) (at : ℕ) (r : Primit
     room = record { are = length-set entries at r ∙ room.are };
     below = λ j m. get_or-set_other entries at j r _ (λ e. omega arith);
   }
+
+  pub others_put : (j : ℕ) → at ≢ j → entry_of (set entries at r) j ≡ entry_of entries j
+  others_put j d = get_or-set_other entries at j r _ (λ e. d (sym e))
+
+  pub put_memo : {entries' : List Primitive} → entries' ≡ set entries at r → (j : ℕ) → 256 ≤ j → entry_of entries' j ≡ entry_of entries j
+  put_memo e j m = rw e (others_put j (λ z. omega arith))
 
 -- an integer or a pointer is one entry
 module _ {entries : List Primitive} (room : Room entries) (at place : ℕ) (to : Bytes) (off : ℕ) (h : at < 256) where
@@ -271,6 +277,17 @@ module _ {f : Bytes} {entries : List Primitive} {seen : List (Option Seen)} (at 
         (let p = past.each N l r e in
         record { behind = p.behind; nearer = p.nearer; is = written_kept kept r.start (struct_layout f N) (omega (arith, p.behind)) p.is });
   }
+
+default : (l : Bytes) (v d : ℕ) → v < length l → get_or l v d ≡ get_or l v 0
+default [] v d h = absurd (omega arith)
+default (x ∷ l) zero d h = refl
+default (x ∷ l) (suc v) d h = default l v d (omega arith)
+
+pub agree_all : (x y : Bytes) → length x ≡ 8 → length y ≡ 8 → ((v : ℕ) → v < 8 → get_or x v 0 ≡ get_or y v 0) → Agree x y
+agree_all x y a b h v = ⊎_elim
+    (λ l. default x v nowhere (omega arith) ∙ h v l ∙ sym (default y v nowhere (omega arith)))
+    (λ l. get_or-eq_default x nowhere {n = v} (omega arith) ∙ sym (get_or-eq_default y nowhere {n = v} (omega arith)))
+    (lt_or_le v 8)
 
 pub written_off : {f : Bytes} {entries : List Primitive} {at : ℕ} {to : Bytes} {off off' : ℕ} {L : Layout variable} → off ≡ off' → Written f entries at to off L → Written f entries at to off' L
 written_off {f} {entries} {at} {to} {off} {off'} {L} e w = subst (λ (x : ℕ). Written f entries at to x L) e w

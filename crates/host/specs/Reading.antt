@@ -69,6 +69,10 @@ object_finds f s a = go (verdict_of f) (does (dec_passes (module_of f) s) && rul
     go (verdicts.Accepted t n g i) false e = nothing
     go (verdicts.Refused n p) b e = nothing
 
+finds_empty : {s : Bytes} {a : ℕ} {p : rules.Part} → Finds s a p → p.size ≡ 0 → p.offset ≡ 0
+finds_empty nothing z = refl
+finds_empty (object h l) z = absurd (omega arith)
+
 finds_none : {s : Bytes} {a : ℕ} {p : rules.Part} → Finds s a p → p.size ≡ 0 → rules.empty_part ≡ p
 finds_none nothing z = refl
 finds_none (object h l) z = absurd (omega arith)
@@ -136,6 +140,10 @@ object_numbers f {r} {s} a h =
 
 pub part_fits : (f s : Bytes) (a : ℕ) {p : Part} → part_meant (Some p) ≡ rules.object_of f s a → (p.offset + p.size ≤ length s) × (p.offset + p.size ≤ state_bytes)
 part_fits f s a e = subst (λ (x : rules.Part). (x.offset + x.size ≤ length s) × (x.offset + x.size ≤ state_bytes)) (sym e) (object_fits f s a)
+
+-- an empty part starts where the state does
+pub part_starts : (f s : Bytes) (a : ℕ) {p : Part} → part_meant (Some p) ≡ rules.object_of f s a → p.size ≡ 0 → p.offset ≡ 0
+part_starts f s a e = subst (λ (x : rules.Part). x.size ≡ 0 → x.offset ≡ 0) (sym e) (finds_empty (object_finds f s a))
 
 -- the bytes from i up to j of the state are a part that starts at i and has so many
 pub part_lies : (f : Bytes) {r s : Bor Bytes} (a : ℕ) (o : Option Part) (i j : ℕ) → part_meant o ≡ rules.object_of f s.now a

@@ -17,7 +17,10 @@ use Rattle.words.specs.Decide.{does}
 use Rattle.rules.specs.Types.{variable, Tree, int, form, number_of, inner, region_of, dec_tree}
 use Rattle.rules.specs.Decode.{module_of}
 use Rattle.judgment.specs.declared.types.RegisterType.{RegisterType}
-use Rattle.terms.specs.Heads.{place_of, tree_at}
+use Rattle.terms.specs.declared.Head.{Head}
+use Rattle.terms.specs.declared.Head.TheVariants.{Int, Ptr, Arr, Struct, Untyped}
+use Rattle.terms.specs.Heads.{place_of, form_no, main_no, tree_at}
+use Rattle.terms.specs.HeadLaws.{Fair}
 use Rattle.terms.specs.Extents.{Terms}
 use Rattle.terms.specs.ExtentLaws.{module_term}
 use Rattle.terms.specs.Compare.{tree_same}
@@ -104,6 +107,17 @@ is_form : (b : Bool) (F n : ℕ) → n ≢ 0 → eqb (cond b F 0) n ≡ b && eqb
 is_form true F n l = refl
 is_form false F n l = ne_eqb 0 n (λ e. l (sym e))
 
+pub head_few : (x : Head) → form_no x < 12
+head_few (Int w) = omega arith
+head_few (Ptr a r) = omega arith
+head_few (Arr n a) = omega arith
+head_few (Struct N n d) = omega arith
+head_few (Untyped n r) = omega arith
+
+pub kind_few : (b : Bool) {F : ℕ} → F < 12 → cond b F 0 < 12
+kind_few true l = l
+kind_few false l = omega arith
+
 module _ (f : Bytes) (h a : ℕ) where
   -- the register's type has a form, as every term has
   pub describes : {e : RegisterType} → form ((function_at f h).register_type a) ≢ 0 → e.form ≡ cond (is_register (function_at f h) a) (form ((function_at f h).register_type a)) 0
@@ -130,6 +144,13 @@ module _ (f : Bytes) (h a : ℕ) where
 -- a term by another number that has the same place
 pub same_place : (f : Bytes) {n : ℕ} → Terms f n → (t u : ℕ) → place_of n u ≡ place_of n t → (module_of f).term u ≡ (module_of f).term t
 same_place f {n} w t u e = module_term f n w u ∙ ap (tree_at f) e ∙ sym (module_term f n w t)
+
+pub main_few : (n : ℕ) (x : Head) → Fair n x → main_no x < 4294967296
+main_few n (Int w) g = omega arith
+main_few n (Ptr a r) g = omega arith
+main_few n (Arr c a) g = g.1
+main_few n (Struct N c d) g = let l = g.0 in omega arith
+main_few n (Untyped c r) g = g.0
 
 -- ---- a table made
 

@@ -1,8 +1,9 @@
 -- Writing a line piece by piece: digits, texts one behind the other, and how long they are. Assumes nothing.
-use Rattle.std.specs.Prelude.{◌≡◌, refl, Bool, true, false, cond, [], ◌∷◌, ◌++◌, ℕ, zero, suc, ◌+◌, ◌*◌, ◌/◌, ◌%◌, ◌<◌, ◌≤◌, ltb, length, set, take, drop}
-use Rattle.std.proofs.Common.{sym, ap, ◌∙◌, append_assoc, not-suc-le-zero, arith, length-append, ltb-false, lt-ltb, le-ltb}
+use Rattle.std.specs.Prelude.{◌≡◌, refl, Bool, true, false, cond, [], ◌∷◌, ◌++◌, ℕ, zero, suc, ◌+◌, ◌*◌, ◌/◌, ◌%◌, ◌<◌, ◌≤◌, ltb, length, set, take, drop, get_or}
+use Rattle.std.proofs.Common.{sym, ap, ◌∙◌, append_assoc, not-suc-le-zero, arith, length-append, ltb-false, lt-ltb, le-ltb, add-one, take-suc}
+use Rattle.std.proofs.Math.Seq.{take-length}
 use Rattle.words.specs.Bytes.{Bytes, splice}
-use Rattle.words.specs.ByteLaws.{length_splice, splice_one, splice_append_at}
+use Rattle.words.specs.ByteLaws.{length_splice, splice_one, splice_append_at, splice_none}
 use Rattle.lines.specs.Lines.{digit, space, line_end, digits_with, decimal, line_of}
 
 -- ---- digits
@@ -107,6 +108,20 @@ digits_one s i n v h e = rw (decimal_one n h, e) (puts_one s i (digit n))
 
 pub digits_more : {s t : Bytes} {i j : ℕ} (n v : ℕ) → 10 ≤ n → Puts s t i j (decimal (n / 10)) → v ≡ digit (n % 10) → Puts s (set t j v) i (j + 1) (decimal n)
 digits_more n v h p e = rw (decimal_more n h, e) (puts_byte p (digit (n % 10)))
+
+-- ---- the bytes of a text, one by one
+
+pub text_none : (s text : Bytes) (i : ℕ) → Puts s s i (i + 0) (take 0 text)
+text_none s text i = record { end = refl; is = sym (splice_none s i) }
+
+pub text_more : {s t : Bytes} {i k : ℕ} (text : Bytes) → k < length text → Puts s t i (i + k) (take k text) → Puts s (set t (i + k) (get_or text k 0)) i (i + (k + 1)) (take (k + 1) text)
+text_more {s} {t} {i} {k} text h p =
+    let q = puts_byte p (get_or text k 0) in
+    let e : take (k + 1) text ≡ take k text ++ get_or text k 0 ∷ [] = ap (λ (n : ℕ). take n text) (add-one k) ∙ take-suc text k 0 h in
+    record { end = (let z : i + (k + 1) ≡ i + k + 1 = omega arith in z) ∙ q.end ∙ ap (λ (l : Bytes). i + length l) (sym e); is = q.is ∙ ap (splice s i) (sym e) }
+
+pub text_all : {s t : Bytes} {i j k : ℕ} (text : Bytes) → k ≡ length text → j ≡ i + k → Puts s t i (i + k) (take k text) → Puts s t i j text
+text_all {s} {t} {i} {j} {k} text e d p = record { end = d ∙ ap (λ (n : ℕ). i + n) e; is = p.is ∙ ap (splice s i) (ap (λ (n : ℕ). take n text) e ∙ take-length text) }
 
 -- ---- a text in the place of as many bytes
 

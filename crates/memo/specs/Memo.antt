@@ -1,6 +1,8 @@
 -- What is remembered of runs: an answer for each distance into an object, none where nobody has asked. Assumes nothing.
-use Rattle.std.specs.Prelude.{◌≡◌, Bool, true, false, ◌≢◌, ℕ, ◌+◌, ◌*◌, ◌/◌, ◌%◌, ◌<◌, ◌≤◌, List, Option, Some, None, get_or, replicate}
-use Rattle.std.proofs.Common.{sym, ap, ◌∙◌, ⊎_elim, arith}
+use Rattle.std.specs.Prelude.{◌≡◌, Bool, true, false, ◌≢◌, ℕ, ◌+◌, ◌*◌, ◌/◌, ◌%◌, ◌<◌, ◌≤◌, List, Option, Some, None, get_or, replicate, length, set}
+use Rattle.std.proofs.Common.{sym, ap, ◌∙◌, ⊎_elim, arith, subst, length-set, get_or-set_same, get_or-set_other}
+use Rattle.std.proofs.Math.Nat.{mod-le}
+use Rattle.std.proofs.Math.Decide.{ℕ_discrete}
 use Rattle.std.proofs.Math.ListN.{get_or-eq_default, length-replicate}
 use Rattle.std.proofs.lemmas.List.{get_or-replicate}
 use Rattle.words.specs.Bytes.{Bytes}
@@ -52,7 +54,28 @@ module _ {f : Bytes} {u : ℕ} {p : Bytes} {t : ℕ} {q : Bytes} where
   pub remembers_none : (n : ℕ) → Remembers f u p t q (replicate n None)
   remembers_none n = remembers_nothing (forgotten n)
 
+  pub remembers_set : {m : List (Option Bool)} (o : ℕ) {b : Bool} → RunAtIs f u p o t q b → Remembers f u p t q m → Remembers f u p t q (set m o (Some b))
+  remembers_set {m} o {b} h r = record { each = λ j k c e. go j k c e (ℕ_discrete j o) }
+    where
+      go : (j : ℕ) → j < 256 → (c : Bool) → get_or (set m o (Some b)) j None ≡ Some c → Dec (j ≡ o) → RunAtIs f u p j t q c
+      go j k c e (yes z) =
+          ⊎_elim
+          (λ l. let g : get_or (set m o (Some b)) j None ≡ Some b = rw z (get_or-set_same m o (Some b) None l) in let w : b ≡ c = cc in let v : RunAtIs f u p j t q b = rw z h in subst (λ (x : Bool). RunAtIs f u p j t q x) w v)
+          (λ l. absurd (let g : get_or (set m o (Some b)) j None ≡ None = get_or-eq_default (set m o (Some b)) None (omega (arith, length-set m o (Some b))) in cc))
+          (lt_or_le o (length m))
+      go j k c e (no d) = r.each j k c (sym (get_or-set_other m o j (Some b) None d) ∙ e)
+
+pub forget_more : (m : List (Option Bool)) (i : ℕ) → ((j : ℕ) → j < i → get_or m j None ≡ None) → (j : ℕ) → j < i + 1 → get_or (set m i None) j None ≡ None
+forget_more m i h j l = go (ℕ_discrete j i)
+  where
+    go : Dec (j ≡ i) → get_or (set m i None) j None ≡ None
+    go (yes e) = ⊎_elim (λ k. rw e (get_or-set_same m i None None k)) (λ k. get_or-eq_default (set m i None) None (omega (arith, length-set m i None))) (lt_or_le i (length m))
+    go (no d) = get_or-set_other m i j None None d ∙ h j (omega (arith, d))
+
 -- ---- the place in a page, from the run
+
+pub rest_few : (x z : ℕ) → x < 256 → x % z < 256
+rest_few x z h = let l = mod-le x z in omega arith
 
 module _ {f : Bytes} {u z : ℕ} (w : SizeIs f u z) (p : Bytes) (x t : ℕ) (q : Bytes) where
   is : (k : RegionKind) → z ≡ (flat (module_of f) (sub (under {k = k} p) (entry_type f u))).size

@@ -217,6 +217,13 @@ home_some {f} {s} {n} {r} {k} {i} {a} {v} {h} e l eh ea et =
       tree = tree_some f s n r k i e (sym l) ∙ ap (λ (x : ℕ). close (frame_map s k) (entry_type f x)) (sym (et ∙ ap (λ (x : ℕ). entry_at f s k (x + i)) d));
     }
 
+-- there is an entry to take
+pub local_some : (f s : Bytes) (n r : ℕ) {k i : ℕ} → k ≡ frame_of f s n r → k ≢ 0 → i ≡ last_local f s (k - 1) r → 0 < i
+local_some f s n r {k} e z l =
+    let q : k ≡ suc (k - 1) = omega (arith, z) in
+    let h = (frame_has f s n r (k - 1) (sym e ∙ q)).1 in
+    omega (arith, l)
+
 -- ---- what its objects are
 
 -- of a type that a term or 255 says

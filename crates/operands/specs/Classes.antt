@@ -1,13 +1,15 @@
 -- The classes of the code as the numbers of the definition, its table as the definition's, and its test of an operand by the class. Assumes
 -- nothing.
-use Rattle.std.specs.Prelude.{◌≡◌, refl, Bool, true, List, [], ◌∷◌, ℕ, zero, suc, ◌-◌, ◌<◌, ◌≤◌, ltb, leb, eqb, length, get_or, map}
-use Rattle.std.proofs.Common.{sym, ap, ◌∙◌, arith}
+use Rattle.std.specs.Prelude.{◌≡◌, refl, Bool, true, List, [], ◌∷◌, ℕ, zero, suc, ◌-◌, ◌<◌, ◌≤◌, ltb, leb, eqb, length, get_or, map, ◌&&◌, ◌+◌, ◌*◌, ◌/◌, ◌%◌, T}
+use Rattle.std.proofs.Common.{sym, ap, ◌∙◌, arith, eqb-true}
 use Rattle.std.proofs.Math.Bool.{or-false}
 use Rattle.std.proofs.Math.ListN as ListN
 use Rattle.std.proofs.Math.ListN.{get_or-eq_default}
 use Rattle.std.proofs.lemmas.List.{length-map, get_or-map}
+use Rattle.words.specs.Choose.{both}
 use Rattle.rules.specs.File.{first_arithmetic}
 use Rattle.rules.specs.Operands.{Classes, row, unused, register, function, target, operation, any, regions, last_operation, operand_table, classes_of, operand_fits}
+use Rattle.operands.specs.Table.{every, holds}
 use Rattle.operands.specs.declared.Class.{Class}
 use Rattle.operands.specs.declared.Class.TheVariants.{Unused, Register, Function, Target, Operation, Any, Regions}
 
@@ -77,6 +79,56 @@ pub numbered : {xs : List Class} {k : Classes} → map number_of xs ≡ numbers_
 numbered {xs} {k} e =
     let at : (i : ℕ) → number_of (get_or xs i Unused) ≡ get_or (numbers_of k) i 0 = λ i. sym (ListN.get_or-map number_of xs i Unused) ∙ ap (λ (l : List ℕ). get_or l i 0) e in
     record { a = at 0; b = at 1; c = at 2; d = at 3 }
+
+-- ---- the classes of a row as octal digits, a's the lowest
+
+-- n has the classes k as its digits
+pub record Digits (n : ℕ) (k : Classes) : Type 0 where
+  pub a : n % 8 ≡ k.a
+  pub b : n / 8 % 8 ≡ k.b
+  pub c : n / 64 % 8 ≡ k.c
+  pub d : n / 512 ≡ k.d
+
+-- the test of one entry: its digits are the classes of row i
+abbrev pub digits_right : ℕ → ℕ → Bool
+digits_right i n =
+    let k = get_or operand_table i (row unused unused unused unused) in
+    eqb (n % 8) k.a && (eqb (n / 8 % 8) k.b && (eqb (n / 64 % 8) k.c && eqb (n / 512) k.d))
+
+-- where every entry of a table passes the test, entry i has the classes of row i
+digits_right_law : (table : List ℕ) → T (every digits_right 0 table) → (i : ℕ) → i < length table
+    → Digits (get_or table i 0) (get_or operand_table i (row unused unused unused unused))
+digits_right_law table t i h = go (get_or table i 0) (get_or operand_table i (row unused unused unused unused)) (holds digits_right table t i h)
+  where
+    go : (n : ℕ) (k : Classes) → eqb (n % 8) k.a && (eqb (n / 8 % 8) k.b && (eqb (n / 64 % 8) k.c && eqb (n / 512) k.d)) ≡ true → Digits n k
+    go n k e =
+        let l = both (eqb (n % 8) k.a) (eqb (n / 8 % 8) k.b && (eqb (n / 64 % 8) k.c && eqb (n / 512) k.d)) e in
+        let m = both (eqb (n / 8 % 8) k.b) (eqb (n / 64 % 8) k.c && eqb (n / 512) k.d) l.1 in
+        let r = both (eqb (n / 64 % 8) k.c) (eqb (n / 512) k.d) m.1 in
+        record {
+          a = eqb-true (n % 8) k.a l.0;
+          b = eqb-true (n / 8 % 8) k.b m.0;
+          c = eqb-true (n / 64 % 8) k.c r.0;
+          d = eqb-true (n / 512) k.d r.1;
+        }
+
+-- the whole table with its digits put together: the constant array of the code
+abbrev pub pack : Classes → ℕ
+pack k = k.a + 8 * k.b + 64 * k.c + 512 * k.d
+
+unfoldable pub packed : List Classes → List ℕ
+packed [] = []
+packed (k ∷ ks) = pack k ∷ packed ks
+
+-- its rule, at every entry
+rule : (i : ℕ) → i < kinds → Digits (get_or (packed operand_table) i 0) (get_or operand_table i (row unused unused unused unused))
+unfolding packed operand_table
+rule i h = digits_right_law (packed operand_table) tt i h
+
+-- the entry of a kind
+pub entry : (kind : ℕ) {i n : ℕ} → i ≡ kind - first_arithmetic → i < kinds → n ≡ get_or (packed operand_table) i 0 → Digits n (classes_of kind)
+unfolding classes_of
+entry kind {i} e h d = rw (← e, d) (rule i h)
 
 -- ---- the test of an operand, by its class
 

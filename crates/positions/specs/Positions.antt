@@ -1,6 +1,6 @@
 -- The primitive at a position, as the code finds it: through arrays, structs and fields, a substitution carried along.
 -- Assumes nothing.
-use Rattle.std.specs.Prelude.{◌≡◌, cond, ℕ, zero, suc, ◌+◌, ◌-◌, ◌*◌, ◌/◌, ◌%◌, ◌≤◌, ◌<◌, ltb, length, get_or}
+use Rattle.std.specs.Prelude.{◌≡◌, cond, ℕ, zero, suc, ◌+◌, ◌-◌, ◌*◌, ◌/◌, ◌%◌, ◌≤◌, ◌<◌, ltb, length, get_or, [], ◌∷◌}
 use Rattle.std.proofs.Math.Path.{refl, ap}
 use Rattle.std.proofs.Common.{sym, ◌∙◌, subst, ⊎_elim, add-zero, mul-le-mul_right, div-lt_iff_lt-mul, div-add-mod', mod-lt, arith}
 use Rattle.std.proofs.Math.ListN.{get_or-eq_default}
@@ -303,7 +303,27 @@ module _ (f : Bytes) (n N : ℕ) where
             ∙ nth_right (before j) (field j) (i - cnt) (omega arith) ∙ ap (λ (x : ℕ). moved x P) (sym is-size) in
             found k ∙ sym (moved_moved off sz (placed_in (under {k = k} to) P)) ∙ ap (moved off) (sym (placed_moved (under {k = k} to) sz P)) ∙ ap (λ (Q : Placed variable). moved off (placed_in (under {k = k} to) Q)) (sym place)
 
--- ---- eight bytes held
+-- ---- four and eight bytes held
+
+pub four : (g : ℕ → ℕ) (a0 a1 a2 a3 : ℕ) → a0 ≡ g 0 → a1 ≡ g 1 → a2 ≡ g 2 → a3 ≡ g 3 → ((v : ℕ) → 4 ≤ v → g v ≡ nowhere) → (v : ℕ) → get_or (a0 ∷ a1 ∷ a2 ∷ a3 ∷ []) v nowhere ≡ g v
+four g a0 a1 a2 a3 p0 p1 p2 p3 h zero = p0
+four g a0 a1 a2 a3 p0 p1 p2 p3 h (suc zero) = p1
+four g a0 a1 a2 a3 p0 p1 p2 p3 h (suc (suc zero)) = p2
+four g a0 a1 a2 a3 p0 p1 p2 p3 h (suc (suc (suc zero))) = p3
+four g a0 a1 a2 a3 p0 p1 p2 p3 h (suc (suc (suc (suc v)))) = sym (h (suc (suc (suc (suc v)))) (omega arith))
+
+pub eight : (g : ℕ → ℕ) (a0 a1 a2 a3 a4 a5 a6 a7 : ℕ) → a0 ≡ g 0 → a1 ≡ g 1 → a2 ≡ g 2 → a3 ≡ g 3 → a4 ≡ g 4 → a5 ≡ g 5 → a6 ≡ g 6 → a7 ≡ g 7
+    → ((v : ℕ) → 8 ≤ v → g v ≡ nowhere) → (v : ℕ) → get_or (a0 ∷ a1 ∷ a2 ∷ a3 ∷ a4 ∷ a5 ∷ a6 ∷ a7 ∷ []) v nowhere ≡ g v
+eight g a0 a1 a2 a3 a4 a5 a6 a7 p0 p1 p2 p3 p4 p5 p6 p7 h zero = p0
+eight g a0 a1 a2 a3 a4 a5 a6 a7 p0 p1 p2 p3 p4 p5 p6 p7 h (suc zero) = p1
+eight g a0 a1 a2 a3 a4 a5 a6 a7 p0 p1 p2 p3 p4 p5 p6 p7 h (suc (suc zero)) = p2
+eight g a0 a1 a2 a3 a4 a5 a6 a7 p0 p1 p2 p3 p4 p5 p6 p7 h (suc (suc (suc zero))) = p3
+eight g a0 a1 a2 a3 a4 a5 a6 a7 p0 p1 p2 p3 p4 p5 p6 p7 h (suc (suc (suc (suc zero)))) = p4
+eight g a0 a1 a2 a3 a4 a5 a6 a7 p0 p1 p2 p3 p4 p5 p6 p7 h (suc (suc (suc (suc (suc zero))))) = p5
+eight g a0 a1 a2 a3 a4 a5 a6 a7 p0 p1 p2 p3 p4 p5 p6 p7 h (suc (suc (suc (suc (suc (suc zero)))))) = p6
+eight g a0 a1 a2 a3 a4 a5 a6 a7 p0 p1 p2 p3 p4 p5 p6 p7 h (suc (suc (suc (suc (suc (suc (suc zero))))))) = p7
+eight g a0 a1 a2 a3 a4 a5 a6 a7 p0 p1 p2 p3 p4 p5 p6 p7 h (suc (suc (suc (suc (suc (suc (suc (suc v)))))))) =
+    sym (h (suc (suc (suc (suc (suc (suc (suc (suc v)))))))) (omega arith))
 
 pub keeps_held : (r to : Bytes) → length to ≤ 8 → Agree r to → Keeps r
 keeps_held r to l h = h nowhere ∙ get_or-eq_default to nowhere (omega arith)

@@ -139,6 +139,9 @@ fits_all w {x} l a b c d =
     at : 256 ^ 4 ≤ 256 ^ w → x < 256 ^ w
     at h = omega (arith, l)
 
+pub fits_at : (v w : ℕ) {x : ℕ} → w ≡ v → Tells (ltb x (256 ^ v)) (x < 256 ^ w)
+fits_at v w {x} e = rw e (tells_lt x (256 ^ v))
+
 -- a map is short
 pub map_short : (s : Bytes) (k : ℕ) {map : Bytes} → map ≡ map_list s k → length map ≤ 8
 unfolding map_list

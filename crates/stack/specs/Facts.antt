@@ -1,7 +1,7 @@
 -- What the tests of frames and of live regions say, on the bytes of file and state. Assumes nothing.
-use Rattle.std.specs.Prelude.{◌≡◌, Bool, ◌≢◌, List, ℕ, suc, ◌+◌, ◌<◌, ◌^◌, length}
+use Rattle.std.specs.Prelude.{◌≡◌, Bool, ◌≢◌, List, ℕ, suc, ◌+◌, ◌<◌, ◌^◌, length, not, ◌&&◌, eqb, ltb}
 use Rattle.std.proofs.Math.Path.{refl}
-use Rattle.std.proofs.Common.{sym, ap, ◌∙◌, arith}
+use Rattle.std.proofs.Common.{sym, ap, ◌∙◌, arith, add-one}
 use Rattle.words.specs.Bytes.{Bytes}
 use Rattle.rules.specs.Limits.{live_regions}
 use Rattle.rules.specs.File.{records, instructions_of, regions_of}
@@ -13,7 +13,7 @@ use Rattle.rules.specs.State.{frame_function, frame_map}
 use Rattle.rules.specs.Heap.{Local, Live}
 use Rattle.rules.specs.declared.Record.{Record}
 use Rattle.walk.specs.Tables.{starts_of, starts_below}
-use Rattle.stack.specs.Tells.{Tells, tells_map}
+use Rattle.stack.specs.Tells.{Tells, tells_map, tells_lt, tells_eq, tells_and, tells_not}
 
 -- what the code is handed of a file: its starts and its number of functions; no place of the file is 2 ^ 32 or more
 pub record Known (f : Bytes) (starts : List ℕ) (functions : ℕ) : Type 0 where
@@ -72,6 +72,11 @@ module _ (f s : Bytes) (k : ℕ) where
 
 -- ---- what the tests of live regions show
 
+-- an entry of the map, read as r
+pub elsewhere_by : {s : Bytes} {k i r : ℕ} (x : ℕ) → r ≡ frame_map s k i → Tells (not (eqb (r + 1) x)) (Elsewhere s k i x)
+elsewhere_by {s} {k} {i} {r} x e =
+    tells_map (λ n. record { is = λ (h : suc (frame_map s k i) ≡ x). n (omega arith) }) (λ w (h : r + 1 ≡ x). w.is (omega arith)) (tells_not (tells_eq (r + 1) x))
+
 module _ {f s : Bytes} {b : Bool} where
   -- the local entries of the function with record 7 h
   pub local_by : {k : ℕ} {h : Record} {a n : ℕ} (x : ℕ) → h ≡ head_at f s k → a ≡ h.a → n ≡ h.b
@@ -94,6 +99,13 @@ module _ {f s : Bytes} {b : Bool} where
       let pa : _ ≡ (head_at f s k).a = p ∙ ap (λ (r : Record). r.a) e in
       let qa : _ ≡ (head_at f s k).b = q ∙ ap (λ (r : Record). r.b) e in
       tells_map (λ w. record { each = w }) (λ w. w.each) (rw (pa, qa) at t)
+
+pub local_ok_by : {f s : Bytes} {k a i r : ℕ} {fresh first : Bool} → r ≡ frame_map s k (a + i) → Tells fresh (NotLive f s k (r + 1))
+    → Tells first ((j : ℕ) → j < i → Elsewhere s k (a + j) (r + 1)) → Tells (ltb r live_regions && (fresh && first)) (LocalOk f s k a i)
+local_ok_by {f} {s} {k} {a} {i} {r} e t u =
+    let d : r + 1 ≡ suc (frame_map s k (a + i)) = add-one r ∙ ap suc e in
+    tells_map (λ p. record { numbered = p.0; fresh = p.1.0; earlier = p.1.1 }) (λ w. (w.numbered, (w.fresh, w.earlier)))
+    (tells_and (tells_map (λ l. rw (← e) l) (λ l. rw e l) (tells_lt r live_regions)) (tells_and (rw d at t) (rw d at u)))
 
 -- no start of a short file is far
 pub start_few : (f : Bytes) (g : ℕ) → length f < 2 ^ 32 → start_of f g < 2 ^ 30

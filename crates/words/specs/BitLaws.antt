@@ -1,6 +1,6 @@
 -- Laws of bits: what is read after one is set, that the others stay, and how code reads, sets and clears them with a mask 1 << k.
 -- Assumes nothing.
-use Rattle.std.specs.Prelude.{◌≡◌, refl, ◌≢◌, ℕ, zero, suc, ◌<◌, ◌+◌, ◌-◌, ◌*◌, ◌/◌, ◌%◌, ◌^◌, max}
+use Rattle.std.specs.Prelude.{◌≡◌, refl, ◌≢◌, ℕ, zero, suc, ◌<◌, ◌+◌, ◌-◌, ◌*◌, ◌/◌, ◌%◌, ◌^◌, max, ◌≤◌}
 use Rattle.std.proofs.Common.{sym, ap, ap₂, ◌∙◌, div-one, pow-suc, arith}
 use Rattle.std.proofs.Math.Nat.{div-div-eq-div-mul}
 use Rattle.std.specs.Int.{w8}
@@ -74,6 +74,15 @@ unfolding bit
 bit_shift b zero = ap (λ (x : ℕ). x % 2) (div-one b)
 bit_shift b (suc i) = ap (λ (x : ℕ). b / x % 2) (pow-suc 2 i ∙ omega arith) ∙ ap (λ (x : ℕ). x % 2) (sym (div-div-eq-div-mul b 2 (2 ^ i))) ∙ bit_shift (b / 2) i
 
+-- set and cleared differ by the bit's weight
+pub set_clear : (b i : ℕ) → with_bit b i 1 ≡ with_bit b i 0 + 2 ^ i
+unfolding with_bit
+set_clear b zero = omega arith
+set_clear b (suc i) =
+    let h : with_bit (b / 2) i 1 ≡ with_bit (b / 2) i 0 + 2 ^ i = set_clear (b / 2) i in
+    let q : 2 ^ suc i ≡ 2 ^ i * 2 = pow-suc 2 i in
+    omega arith
+
 -- an or with the mask sets the bit
 pub or_sets : (b i : ℕ) → bit_or b (2 ^ i) ≡ with_bit b i 1
 unfolding with_bit
@@ -86,6 +95,13 @@ or_sets b (suc i) =
     ∙ ap₂ (λ (x y : ℕ). bit_or (b / 2) x * 2 + max (b % 2) y) h e
     ∙ ap (λ (x : ℕ). x * 2 + max (b % 2) 0) (or_sets (b / 2) i)
     ∙ omega arith
+
+-- the mask can be taken away again, and then the bit is cleared
+pub or_covers : (b i : ℕ) → 2 ^ i ≤ bit_or b (2 ^ i)
+or_covers b i = rw (or_sets b i, set_clear b i) (omega arith)
+
+pub or_clears : (b i : ℕ) → bit_or b (2 ^ i) - 2 ^ i ≡ with_bit b i 0
+or_clears b i = rw (or_sets b i, set_clear b i) (omega arith)
 
 -- an and with all but the mask clears it
 pub and_clears : (b i : ℕ) → b < 256 → i < 8 → bit_and b (255 - 1 * 2 ^ i % 256) ≡ with_bit b i 0

@@ -11,7 +11,7 @@ use Rattle.std.proofs.Math.Nat.{mod-one, div-div-eq-div-mul}
 use Rattle.std.proofs.Math.Numerals.{towards_suc}
 use Rattle.std.proofs.Math.Decide.{dec_lt}
 use Rattle.std.proofs.Math.Arith.{mod-mul, digits_lt}
-use Rattle.std.proofs.lemmas.List.{length-replicate, get_or-replicate}
+use Rattle.std.proofs.lemmas.List.{length-replicate, get_or-replicate, replicate-append-replicate}
 use Rattle.std.proofs.Math.ListN.{get_or-eq_default}
 use Rattle.words.specs.Bytes.{Bytes, AllBytes, byte_at, number, little, splice, put, fill, list_from, list_of}
 
@@ -413,6 +413,29 @@ put_one s i v = splice_one s i (v % 256)
 -- a byte put is a byte set
 pub put_byte : (s : Bytes) (i v : ℕ) → v < 256 → put 1 s i v ≡ set s i v
 put_byte s i v h = put_one s i v ∙ ap (set s i) (mod-eq_of_lt h)
+
+pub put_two : (s : Bytes) (i v : ℕ) → put 2 s i v ≡ set (set s (i + 1) (v / 256 % 256)) i (v % 256)
+unfolding put little
+put_two s i v = simp (towards_suc, splice_cons, splice_none)
+
+pub put_four : (s : Bytes) (i v : ℕ)
+    → put 4 s i v ≡ set (set (set (set s (i + 3) (v / 16777216 % 256)) (i + 2) (v / 65536 % 256)) (i + 1) (v / 256 % 256)) i (v % 256)
+unfolding put little
+put_four s i v = simp (towards_suc, splice_cons, splice_none, div-div-eq-div-mul)
+
+-- ---- a loop that fills
+
+pub fill_none : (s : Bytes) (i v : ℕ) → fill 0 s i v ≡ s
+unfolding fill
+fill_none s i v = splice_none s i
+
+-- one byte more, upward
+pub fill_up : (n : ℕ) (s : Bytes) (i v : ℕ) → fill (n + 1) s i v ≡ set (fill n s i v) (i + n) v
+unfolding fill
+fill_up n s i v =
+    ap (splice s i) (sym (replicate-append-replicate n 1 v))
+    ∙ splice_snoc s i (replicate n v) v
+    ∙ ap (λ (k : ℕ). set (splice s i (replicate n v)) (i + k) v) (length-replicate n v)
 
 -- the bytes of a number as `to_le_bytes` gives them
 pub little_two : (v : ℕ) → v % 65536 % 256 ∷ v % 65536 / 256 % 256 ∷ [] ≡ little 2 v
