@@ -19,7 +19,7 @@ use Rattle.objects.specs.Homes.{HomeIs, StandsAt}
 use Rattle.objects.specs.declared.Home.{Home}
 use Rattle.positions.specs.Maps.{Narrow, map_list}
 use Rattle.registers.specs.Value.{typing_of, value_int, value_ptr, value_raw, type_some, stands_none, untyped_none, untyped_some}
-use Rattle.memo.specs.Memo.{SizeIs, Remembers, same_tree}
+use Rattle.memo.specs.Memo.{SizeIs, Remembers, Forgotten, remembers_nothing, same_tree}
 use Rattle.values.specs.declared.memory.Target.{Target}
 use Rattle.values.specs.declared.memory.Target.TheVariants.{Nowhere, Untyped, Run}
 use Rattle.values.specs.declared.memory.Aim.{Aim}
@@ -224,3 +224,12 @@ pub record AimsAt (f s : Bytes) (n : ℕ) (to : Bytes) (t : ℕ) (a : Aim) (m : 
 pub aim_same : {f s : Bytes} {n : ℕ} {to : Bytes} {t : ℕ} {a : Aim} {m : List (Option Bool)} {terms x y : ℕ} {b : Bool} → AimHolds f s n a m → Terms f terms → x ≡ place_of terms a.t → y ≡ place_of terms t
     → (b ≡ places_same variable f x a.to y to) × (b ≡ places_same live f x a.to y to) → b ≡ true → AimsAt f s n to t a m
 aim_same {f} {to = to} {t = t} {a = a} w terms ex ey e h = record { holds = w; same = same_tree live f a.t t a.to to terms ex ey (sym e.1 ∙ h) }
+
+pub aim_new : {f s : Bytes} {n : ℕ} {to : Bytes} {t : ℕ} {g : Target} {m : List (Option Bool)} → TargetIs f s n to t g → Forgotten m
+    → AimsAt f s n to t (record { t = t; to = to; target = g }) m
+aim_new {f} {to = to} {g = g} {m = m} is w = record { holds = record { target = is; remembers = go g }; same = refl }
+  where
+    go : (g : Target) → Remembered f to g m
+    go Nowhere = tt
+    go (Untyped region h many) = tt
+    go (Run region h map z run) = remembers_nothing w

@@ -1,6 +1,6 @@
 -- The primitives of owned pages, from tests of one primitive at a time: region by region, position by position, page by page, place by
 -- place. A position has the same term in each place of its region's pages, so that it is found once for all of them. Assumes nothing.
-use Rattle.std.specs.Prelude.{◌≡◌, None, refl, Bool, true, List, ◌≢◌, ◌⊎◌}
+use Rattle.std.specs.Prelude.{◌≡◌, None, refl, Bool, true, not, List, ◌≢◌, ◌⊎◌, eqb}
 use Rattle.std.proofs.Math.Path.{sym, ap, subst}
 use Rattle.std.proofs.Common.{◌∙◌, inl, inr, ⊎_elim, mul-suc}
 use Prim.Native.Nat.{ℕ, zero, suc, ◌+◌, ◌-◌, ◌*◌, ◌<◌, ◌≤◌}
@@ -32,7 +32,7 @@ use Rattle.positions.specs.TableLaws.{layout_term}
 use Rattle.positions.specs.Positions.{Keeps, Agree, Found, keeps_held}
 use Rattle.positions.specs.Distances.{found_nth, layout_under}
 use Rattle.positions.specs.Maps.{each_of, Narrow, map_list}
-use Rattle.stack.specs.Tells.{Tells, tells_map, tells_yes}
+use Rattle.stack.specs.Tells.{Tells, tells_map, tells_yes, tells_not, tells_eq}
 use Rattle.objects.specs.Homes.{region_tree, HomeIs, StandsAt}
 use Rattle.marks.specs.Ends.{PlacesIn}
 use Rattle.objects.specs.declared.Home.{Home}
@@ -206,6 +206,9 @@ module _ {f s : Bytes} {n p terms structs : ℕ} {o : Objects} (are : ObjectsAre
 
 pub record Apart (s : Bytes) (x q : ℕ) : Type 0 where
   pub is : page_owner s q ≢ x
+
+pub apart_by : {s : Bytes} {x q o : ℕ} → o ≡ page_owner s q → Tells (not (eqb o x)) (Apart s x q)
+apart_by {s} {x} {q} {o} e = tells_map (λ w. record { is = λ k. w (e ∙ k) }) (λ w k. w.is (sym e ∙ k)) (tells_not (tells_eq o x))
 
 pub record Leads (f s : Bytes) (n p : ℕ) : Type 0 where
   pub is : ((q : ℕ) → q < p → Apart s (page_owner s p) q) → (q : ℕ) → q < pages → page_owner s q ≡ page_owner s p → PagePrimitives f s n q
