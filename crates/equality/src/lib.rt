@@ -48,6 +48,7 @@ pub fn same_places(f: &[u8], a: usize, p: &[u8], b: usize, q: &[u8]) -> bool
 {
     let mut i = a;
     let mut j = b;
+    // (two places that go inward, not an index: a `while`)
     while (i > 0) | (j > 0) {
         let x = head_of(f, i);
         let y = head_of(f, j);

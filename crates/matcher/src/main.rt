@@ -38,6 +38,7 @@ fn fill<R: Read>(file: &mut R, buf: &mut [u8]) -> io::Result<usize>
     ensures err { OnErr result ((n : ℕ) × Consumes (R.remaining file.old) (R.remaining file.new) (take n buf.new)) }
 {
     let mut count = 0;
+    // (a reading says itself how far it comes: a `while`)
     while count < buf.len() {
         let more = file.read(&mut buf[count..])?;
         if more == 0 {

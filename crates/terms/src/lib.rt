@@ -331,6 +331,7 @@ pub fn bound(f: &[u8], n: usize, t: usize) -> usize
 {
     let mut best = 0;
     let mut i = place_of(n, t);
+    // (a place that goes inward, not an index: a `while`)
     while i > 0 {
         let x = head_of(f, i);
         best = best.max(head_bound(x));
