@@ -56,14 +56,7 @@ fn place_ok(
     pointer_ok(mapped, aim, x, memo)
 }
 
-fn places_ok(
-    mapped: &MappedState,
-    p: u32,
-    size: usize,
-    d: usize,
-    aim: Aim,
-    memo: &mut Memo,
-) -> bool
+fn places_ok(mapped: &MappedState, p: u32, size: usize, d: usize, aim: Aim, memo: &mut Memo) -> bool
     requires within { (p < pages) × (d ≤ size_limit) }
     requires holds { let s = mapped.now.typed.state in AimHolds s.file.now s.bytes.now s.frames aim memo.old }
     ensures { let s = mapped.now.typed.state in (Tells result ((j : ℕ) → j < page_bytes → PlaceOk s.file.now s.bytes.now s.frames p size aim.to aim.t d j)) × (AimHolds s.file.now s.bytes.now s.frames aim memo.new) }
