@@ -112,7 +112,7 @@ digits_right_law table t i h = go (get_or table i 0) (get_or operand_table i (ro
           d = eqb-true (n / 512) k.d r.1;
         }
 
--- the whole table with its digits put together: the constant array of the code
+-- the whole table with its digits put together, an octal digit for each class
 abbrev pub pack : Classes → ℕ
 pack k = k.a + 8 * k.b + 64 * k.c + 512 * k.d
 
