@@ -133,9 +133,13 @@ module _ (f : Bytes) where
   wrong_length e = sym (refuses (length_stage f) (block_stage f ∷ []) (one_fails _ e) (lit< tt))
 
   -- behind the length the blocks' tests decide
-  wrong_block : length_right f ≡ true → {p : ℕ} → p ≡ first (2 * blocks f) (block_test f) → p < 2 * blocks f → Refused (bad_block + p % 2) (p / 2) ≡ framing_of f
+  pub wrong_block : length_right f ≡ true → {p : ℕ} → p ≡ first (2 * blocks f) (block_test f) → p < 2 * blocks f → Refused (bad_block + p % 2) (p / 2) ≡ framing_of f
   unfolding framing_of
   wrong_block e q h = sym (passes (length_stage f) (block_stage f ∷ []) (one_passes _ e) (lit≤ tt) ∙ refuses (block_stage f) [] q h)
+
+  pub right_blocks : length_right f ≡ true → {p : ℕ} → p ≡ first (2 * blocks f) (block_test f) → 2 * blocks f ≤ p → Passed ≡ framing_of f
+  unfolding framing_of
+  right_blocks e q h = sym (passes (length_stage f) (block_stage f ∷ []) (one_passes _ e) (lit≤ tt) ∙ passes (block_stage f) [] q h ∙ none)
 
   pub wrong_place : length_right f ≡ true → {i : ℕ} → i < blocks f → Right f i → place_right f i ≡ false → Refused bad_block i ≡ framing_of f
   unfolding Right
@@ -157,6 +161,7 @@ module _ (f : Bytes) where
   unfolding Right
   right_more i before r d j h = below_more _ (2 * i + 1) (below_more _ (2 * i) before (place_first f i ∙ r)) (check_second f i ∙ d) j (omega arith)
 
-  pub right_blocks : length_right f ≡ true → (i : ℕ) → i ≡ blocks f → Right f i → Passed ≡ framing_of f
-  unfolding framing_of Right
-  right_blocks e i q h = sym (passes (length_stage f) (block_stage f ∷ []) (one_passes _ e) (lit≤ tt) ∙ passes (block_stage f) [] (sym (first_none (2 * blocks f) (block_test f) (λ j l. h j (omega arith)))) (omega arith) ∙ none)
+  -- where the tests of all blocks hold
+  pub right_all : length_right f ≡ true → (i : ℕ) → i ≡ blocks f → Right f i → Passed ≡ framing_of f
+  unfolding Right
+  right_all e i q h = right_blocks e (sym (first_none (2 * blocks f) (block_test f) (λ j l. h j (omega arith)))) (omega arith)

@@ -2,7 +2,7 @@
 use mathlib.Core.Path.{sym, ◌∙◌}
 use native.Mathlib.Omega.{arith}
 use Rattle.framing.specs.Framing.{few_blocks}
-use Rattle.framing.specs.Outcome.{wrong_length, wrong_place, wrong_check, right_none, right_more, right_blocks}
+use Rattle.framing.specs.Outcome.{wrong_length, wrong_place, wrong_check, right_none, right_more, right_all}
 use Rattle.framing.proofs.framing.Goals as goal
 
 pub returns-then-not-length_right : goal.returns-then-not-length_right
@@ -27,4 +27,4 @@ pub loop-i-preserved : goal.loop-i-preserved
 loop-i-preserved c = right_more _ _ c.loop-i.invariant (sym c.place_right.ensures ∙ c.if-not-place_right.false) (sym c.check_right.ensures ∙ c.if-not-check_right.false)
 
 pub returns : goal.returns
-returns c = right_blocks _ (sym c.length_right.ensures ∙ c.if-not-length_right.false) _ (omega arith) c.loop-i.invariant
+returns c = right_all _ (sym c.length_right.ensures ∙ c.if-not-length_right.false) _ (omega arith) c.loop-i.invariant
