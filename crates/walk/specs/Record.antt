@@ -73,16 +73,26 @@ pub byte_of_law : (f : Bytes) (r : ℕ) → AllBytes f → (record_of f r).b < 2
 unfolding record_of
 byte_of_law f r all = all (record_start r + 2)
 
--- from entry 6 on it is the last byte
-entry_last : (x : Record) (i : ℕ) → entry_of x (min i 6) ≡ entry_of x i
-entry_last x zero = refl
-entry_last x (suc zero) = refl
-entry_last x (suc (suc zero)) = refl
-entry_last x (suc (suc (suc zero))) = refl
-entry_last x (suc (suc (suc (suc zero)))) = refl
-entry_last x (suc (suc (suc (suc (suc zero))))) = refl
-entry_last x (suc (suc (suc (suc (suc (suc i)))))) = let h : min (suc (suc (suc (suc (suc (suc i)))))) 6 ≡ 6 = omega arith in rw h
+-- from entry 6 on, the last byte
+pub entry_last : (x : Record) (i : ℕ) → 6 ≤ i → x.d / 16777216 ≡ entry_of x i
+entry_last x zero h = absurd (omega arith)
+entry_last x (suc zero) h = absurd (omega arith)
+entry_last x (suc (suc zero)) h = absurd (omega arith)
+entry_last x (suc (suc (suc zero))) h = absurd (omega arith)
+entry_last x (suc (suc (suc (suc zero)))) h = absurd (omega arith)
+entry_last x (suc (suc (suc (suc (suc zero))))) h = absurd (omega arith)
+entry_last x (suc (suc (suc (suc (suc (suc i)))))) h = refl
+
+-- so an entry is one of the first seven
+entry_held : (x : Record) (i : ℕ) → entry_of x (min i 6) ≡ entry_of x i
+entry_held x zero = refl
+entry_held x (suc zero) = refl
+entry_held x (suc (suc zero)) = refl
+entry_held x (suc (suc (suc zero))) = refl
+entry_held x (suc (suc (suc (suc zero)))) = refl
+entry_held x (suc (suc (suc (suc (suc zero))))) = refl
+entry_held x (suc (suc (suc (suc (suc (suc i)))))) = let h : min (suc (suc (suc (suc (suc (suc i)))))) 6 ≡ 6 = omega arith in rw h
 
 -- an entry by its place among the seven
 pub entry_at : (x : Record) (i : ℕ) → get_or (list_of (entry_of x) most_entries) (min i 6) 0 ≡ entry_of x i
-entry_at x i = get_d_list_of (entry_of x) most_entries (min i 6) 0 (omega arith) ∙ entry_last x i
+entry_at x i = get_d_list_of (entry_of x) most_entries (min i 6) 0 (omega arith) ∙ entry_held x i
