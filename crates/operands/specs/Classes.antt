@@ -54,9 +54,9 @@ unfolding table operand_table
 same = refl
 
 -- the row of a kind
-pub row_right : (kind : ℕ) {i : ℕ} (d : List Class) → i ≡ kind - first_arithmetic → i < kinds → map number_of (get_or table i d) ≡ numbers_of (classes_of kind)
+pub row_numbers : (kind : ℕ) {i : ℕ} (d : List Class) → i ≡ kind - first_arithmetic → i < kinds → map number_of (get_or table i d) ≡ numbers_of (classes_of kind)
 unfolding classes_of
-row_right kind {i} d h l =
+row_numbers kind {i} d h l =
     let m : length table ≡ kinds = sym (length-map table (map number_of)) ∙ ap length same ∙ length-map operand_table numbers_of ∙ rows in
     sym (get_or-map (map number_of) table i d [] (omega arith))
     ∙ ap (λ (t : List (List ℕ)). get_or t i []) same
@@ -64,9 +64,9 @@ row_right kind {i} d h l =
     ∙ ap (λ (j : ℕ). numbers_of (get_or operand_table j (row unused unused unused unused))) h
 
 -- past the table all is unused
-pub past_rows : (kind : ℕ) {i : ℕ} → i ≡ kind - first_arithmetic → kinds ≤ i → numbers_of (row unused unused unused unused) ≡ numbers_of (classes_of kind)
+pub past_numbers : (kind : ℕ) {i : ℕ} → i ≡ kind - first_arithmetic → kinds ≤ i → numbers_of (row unused unused unused unused) ≡ numbers_of (classes_of kind)
 unfolding classes_of
-past_rows kind e h = ap numbers_of (sym (get_or-eq_default operand_table (row unused unused unused unused) (omega (arith, rows))))
+past_numbers kind e h = ap numbers_of (sym (get_or-eq_default operand_table (row unused unused unused unused) (omega (arith, rows))))
 
 -- the four classes, each with its number
 pub record Numbered (xs : List Class) (k : Classes) : Type 0 where
@@ -90,15 +90,15 @@ pub record Digits (n : ℕ) (k : Classes) : Type 0 where
   pub d : n / 512 ≡ k.d
 
 -- the test of one entry: its digits are the classes of row i
-abbrev pub digits_right : ℕ → ℕ → Bool
-digits_right i n =
+abbrev pub row_right : ℕ → ℕ → Bool
+row_right i n =
     let k = get_or operand_table i (row unused unused unused unused) in
     eqb (n % 8) k.a && (eqb (n / 8 % 8) k.b && (eqb (n / 64 % 8) k.c && eqb (n / 512) k.d))
 
 -- where every entry of a table passes the test, entry i has the classes of row i
-digits_right_law : (table : List ℕ) → T (every digits_right 0 table) → (i : ℕ) → i < length table
+row_right_law : (table : List ℕ) → T (every row_right 0 table) → (i : ℕ) → i < length table
     → Digits (get_or table i 0) (get_or operand_table i (row unused unused unused unused))
-digits_right_law table t i h = go (get_or table i 0) (get_or operand_table i (row unused unused unused unused)) (holds digits_right table t i h)
+row_right_law table t i h = go (get_or table i 0) (get_or operand_table i (row unused unused unused unused)) (holds row_right table t i h)
   where
     go : (n : ℕ) (k : Classes) → eqb (n % 8) k.a && (eqb (n / 8 % 8) k.b && (eqb (n / 64 % 8) k.c && eqb (n / 512) k.d)) ≡ true → Digits n k
     go n k e =
@@ -123,12 +123,19 @@ packed (k ∷ ks) = pack k ∷ packed ks
 -- its rule, at every entry
 rule : (i : ℕ) → i < kinds → Digits (get_or (packed operand_table) i 0) (get_or operand_table i (row unused unused unused unused))
 unfolding packed operand_table
-rule i h = digits_right_law (packed operand_table) tt i h
+rule i h = row_right_law (packed operand_table) tt i h
 
 -- the entry of a kind
 pub entry : (kind : ℕ) {i n : ℕ} → i ≡ kind - first_arithmetic → i < kinds → n ≡ get_or (packed operand_table) i 0 → Digits n (classes_of kind)
 unfolding classes_of
 entry kind {i} e h d = rw (← e, d) (rule i h)
+
+-- past the table all is unused
+pub past_rows : (kind : ℕ) {i : ℕ} → i ≡ kind - first_arithmetic → kinds ≤ i → Digits 0 (classes_of kind)
+unfolding classes_of
+past_rows kind e h =
+    let past : length operand_table ≤ kind - first_arithmetic = omega (arith, rows) in
+    rw (get_or-eq_default operand_table (row unused unused unused unused) past) (record { a = refl; b = refl; c = refl; d = refl })
 
 -- ---- the test of an operand, by its class
 
