@@ -15,7 +15,8 @@ use state::fields::{clear_memory, mark, owner, put_owner, range, set_marks};
 use state::range::{end_page, low_page};
 use state::{LiveRegion, Machine};
 
-// The first of c unused places in a row of page p; the places below from are used.
+// The first of c unused places in a row of page p; the places below from are used. (The scan ends where no run can start any more: of what
+// stands behind, no place is read.)
 fn lowest_run(s: &[u8], p: u32, from: u32, c: u32) -> Option<u32>
     requires { (length s.now ≡ state_bytes) × (p < pages) × (0 < c) × (c ≤ page_bytes) × UsedBelow s.now p from }
     ensures { SomeIff result (unused_place (page_mark s.now) page_bytes c p < run_starts page_bytes c) (unused_place (page_mark s.now) page_bytes c p) }
@@ -27,6 +28,9 @@ fn lowest_run(s: &[u8], p: u32, from: u32, c: u32) -> Option<u32>
     for k in from..Machine::PAGE_BYTES {
         if mark(s, p, k) != 0 {
             start = k + 1;
+            if Machine::PAGE_BYTES < start + c {
+                return None;
+            }
         } else if k + 1 == start + c {
             return Some(start);
         }

@@ -8,7 +8,7 @@ use Rattle.rules.specs.State.{page_mark}
 use Rattle.state.specs.Runs.{scan_more, scan_past, scan_found}
 use Rattle.pages.specs.Untyped.{scan_from, scan_over}
 use Rattle.pages.proofs.bytes.lowest_run.Goals as goal
-use Rattle.pages.proofs.bytes.lowest_run.Goals.{then-mark-ne0, else-mark-ne0+else-k-start}
+use Rattle.pages.proofs.bytes.lowest_run.Goals.{then-mark-ne0+else-start-c-gt-PAGE_BYTES, else-mark-ne0+else-k-start}
 
 pub returns-then-c-from : goal.returns-then-c-from
 returns-then-c-from c = λ l.
@@ -27,16 +27,26 @@ loop-k-preserved c =
     let mark = page_mark c.args.s.now in
     let here : start + (k - start) ≡ k = omega arith in
     elim c.if-mark-ne0.branch [
-      | then-mark-ne0 w ↦
+      | then-mark-ne0+else-start-c-gt-PAGE_BYTES w ↦
           let past = scan_past _ _ _ _ _ c.loop-k.invariant.short c.loop-k.invariant.scanned (λ e. w.if-mark-ne0.true (c.mark.ensures.0 ∙ ap (mark c.args.p) (sym here) ∙ e)) in
-          let z : k + 1 - c.if-mark-ne0.start ≡ 0 = omega arith in
-          let d : c.if-mark-ne0.start ≡ start + (k - start) + 1 = omega arith in
+          let z : k + 1 - c.if-mark-ne0.start ≡ 0 = let e = w.start-is in omega arith in
+          let d : c.if-mark-ne0.start ≡ start + (k - start) + 1 = let e = w.start-is in omega arith in
           record { above = omega arith; short = omega arith; scanned = rw (z, d) past }
       | else-mark-ne0+else-k-start w ↦
           let more = scan_more _ _ _ _ _ c.loop-k.invariant.scanned (ap (mark c.args.p) here ∙ sym c.mark.ensures.0 ∙ w.if-mark-ne0.false) in
           let z : k + 1 - c.if-mark-ne0.start ≡ k - start + 1 = omega arith in
           record { above = omega arith; short = omega arith; scanned = rw (z, w.start-is) more }
     ]
+
+pub returns-then-start-c-gt-PAGE_BYTES : goal.returns-then-start-c-gt-PAGE_BYTES
+returns-then-start-c-gt-PAGE_BYTES c = λ l.
+    let k = c.loop-k.k in
+    let start = c.loop-k.start in
+    let mark = page_mark c.args.s.now in
+    let here : start + (k - start) ≡ k = omega arith in
+    let past = scan_past _ _ _ _ _ c.loop-k.invariant.short c.loop-k.invariant.scanned (λ e. c.if-mark-ne0.true (c.mark.ensures.0 ∙ ap (mark c.args.p) (sym here) ∙ e)) in
+    let e = scan_over c.args.s.now c.args.c c.args.p page_bytes (start + (k - start) + 1) 0 (let b = c.if-start-c-gt-PAGE_BYTES.true in omega arith) past in
+    omega arith
 
 pub returns-then-k-start : goal.returns-then-k-start
 returns-then-k-start c =
