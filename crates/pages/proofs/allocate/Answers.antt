@@ -9,7 +9,7 @@ use native.Mathlib.Omega.{arith}
 use Rattle.rules.specs.State.{low_page, end_page, view, page_owner, page_mark}
 use Rattle.pages.specs.Search.{found_before, found_first, found_full}
 use Rattle.pages.specs.Known.{used_remembered}
-use Rattle.pages.specs.Meaning.{chosen, place_chosen, page_chosen, page_within}
+use Rattle.pages.specs.Meaning.{chosen, place_chosen, unowned_chosen, page_within}
 use Rattle.pages.specs.declared.Chosen.{Chosen}
 use Rattle.pages.proofs.allocate.Goals as goal
 
@@ -46,7 +46,7 @@ returns-in-None c =
     let full = rw c.in-None.is at room.ensures.0.there in
     let free = c.unowned_page in
     let mapped : c.map.result ≡ option_map Page free.result = search rules in (
-      mapped ∙ page_chosen (page_owner s) (page_mark s) _ _ start.args.r.0 start.args.n 1 (found_full _ none full) free.result free.ensures ∙ ap₂ at low end,
+      mapped ∙ unowned_chosen (page_owner s) (page_mark s) _ _ start.args.r.0 start.args.n 1 (found_full _ none full) free.result free.ensures ∙ ap₂ at low end,
       rw mapped (page_within (page_owner s) (page_mark s) _ _ start.args.r.0 start.args.n 1 _ _ free.result free.ensures past),
       room.ensures.1,
     )

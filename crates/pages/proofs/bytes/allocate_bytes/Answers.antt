@@ -11,7 +11,7 @@ use Rattle.rules.specs.Limits.{page_bytes}
 use Rattle.rules.specs.State.{low_page, end_page, view, page_owner, page_mark}
 use Rattle.rules.specs.Step.{run_starts, unused_place}
 use Rattle.pages.specs.Search.{found_here, none_own, none_other, none_found}
-use Rattle.pages.specs.Meaning.{chosen, place_chosen, page_chosen, page_within}
+use Rattle.pages.specs.Meaning.{chosen, place_chosen, unowned_chosen, page_within}
 use Rattle.pages.specs.declared.Chosen.{Chosen}
 use Rattle.pages.proofs.bytes.allocate_bytes.Goals as goal
 use Rattle.pages.proofs.bytes.allocate_bytes.Goals.{then-from+in_default, else-from}
@@ -81,7 +81,7 @@ returns c =
     let full = none_found (page_owner s) (page_mark s) _ _ start.args.r.0 page_bytes start.args.c loop.p loop.invariant.full loop.auto.p c.loop-p-test.false in
     let free = c.unowned_page in
     let mapped : c.map.result ≡ option_map Page free.result = search rules in (
-      mapped ∙ page_chosen (page_owner s) (page_mark s) _ _ start.args.r.0 page_bytes start.args.c full free.result free.ensures ∙ ap₂ at low end,
+      mapped ∙ unowned_chosen (page_owner s) (page_mark s) _ _ start.args.r.0 page_bytes start.args.c full free.result free.ensures ∙ ap₂ at low end,
       rw mapped (page_within (page_owner s) (page_mark s) _ _ start.args.r.0 page_bytes start.args.c _ _ free.result free.ensures past),
       loop.invariant.used,
     )
