@@ -14,7 +14,7 @@ unfolding last_owned
 loop-p-init c = record { short = omega arith; full = λ j a b. absurd (omega arith); used = c.requires.3; looked = let z : c.args.low - c.args.low ≡ 0 = omega arith in rw z refl }
 
 pub place_in-requires : goal.place_in-requires
-place_in-requires c = (c.requires.0, (let h = c.loop-p-test.true in let g = c.requires.1 in omega arith), c.requires.2, c.loop-p.invariant.used)
+place_in-requires c = (c.requires.0, (let h = c.loop-p-test.true in let g = c.requires.1 in omega arith), (let h = c.requires.2 in omega arith), c.loop-p.invariant.used)
 
 pub returns-in-Some : goal.returns-in-Some
 returns-in-Some c =
