@@ -36,7 +36,7 @@ pub enum Operation {
 
 impl Operation {
     // The operation with this number, if there is one.
-    fn numbered(op: u32) -> Option<Operation>
+    pub fn numbered(op: u32) -> Option<Operation>
         ensures { MatchOption result (14 ≤ op) (λ o. operation_number o ≡ op) }
     {
         match op {
