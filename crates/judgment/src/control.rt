@@ -1,15 +1,32 @@
 // Kinds 29 to 34.
 ghost use Rattle.std.specs.Prelude.{◌≡◌, ◌<◌, ◌^◌, ltb};
+ghost use Rattle.words.specs.Decide.{does};
 ghost use Rattle.rules.specs.File.{record_of};
 ghost use Rattle.rules.specs.Module.{input, output, jump, branch, return};
-ghost use Rattle.rules.specs.Decode.{control_of};
-ghost use Rattle.functions.specs.Functions.{Known};
+ghost use Rattle.rules.specs.Decision.{dec_typed};
+ghost use Rattle.rules.specs.Decode.{module_of, control_of};
+ghost use Rattle.functions.specs.Functions.{Known, function_at};
 ghost use Rattle.judgment.specs.Kinds.{call_at};
-ghost use Rattle.judgment.specs.Function.{in_file, keeps_rule};
+ghost use Rattle.judgment.specs.Function.{keeps_rule};
 
 use crate::function::Function;
 use rules::kind::Kind;
 use rules::limits::CALLEES;
+
+// d is an instruction of the function with record 7 at h.
+fn is_target(f: &[u8], h: usize, d: u32) -> bool
+    ensures { result ≡ ltb d (function_at f.now h).code_length }
+{
+    let x = walk::file::record_at(f, h);
+    (d as usize) < walk::file::instructions_of(x)
+}
+
+// 31: to d. It asks for no register, so that nothing need be known of the function.
+pub fn jump(f: &[u8], h: usize, d: u32) -> bool
+    ensures { result ≡ does (dec_typed (module_of f.now) (function_at f.now h) (jump d)) }
+{
+    is_target(f, h, d)
+}
 
 impl Function<'_> {
     // 29: byte c of the form into i8 a.
@@ -26,26 +43,18 @@ impl Function<'_> {
         self.has_width(1, b)
     }
 
-    // d is an instruction.
-    fn is_target(&self, d: u32) -> bool
-        ensures { result ≡ ltb d (in_file self.now).code_length }
-    {
-        let x = walk::file::record_at(self.file, self.head);
-        (d as usize) < walk::file::instructions_of(x)
-    }
-
     // 31: to d.
     pub fn jump(&self, d: u32) -> bool
         ensures { result ≡ keeps_rule self.now (jump d) }
     {
-        self.is_target(d)
+        jump(self.file, self.head, d)
     }
 
     // 32: to d if integer a is not zero.
     pub fn branch(&self, a: usize, d: u32) -> bool
         ensures { result ≡ keeps_rule self.now (branch a d) }
     {
-        self.is_integer(a) & self.is_target(d)
+        self.is_integer(a) & is_target(self.file, self.head, d)
     }
 
     // 34: a is returned.
