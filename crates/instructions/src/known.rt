@@ -63,6 +63,33 @@ pub fn run_known(
     stands
 }
 
+// Whether terms u and t have the same primitives, as they are written: as many, and the run of t from the first on. Most that are compared
+// are one term.
+pub fn same_known(
+    f: &[u8],
+    n: usize,
+    k: usize,
+    tab: &[u64],
+    known: &mut [usize; RUNS],
+    u: usize,
+    t: usize,
+) -> bool
+    requires fact_1 { Table f.now n k tab.now }
+    requires fact_2 { (u < 256) × (t < 256) }
+    requires fact_3 { Remembered f.now known.old }
+    ensures { (result ≡ same_prims f.now u t) × (Remembered f.now known.new) }
+{
+    let count = positions::extent_in(tab, terms::place_of(n, u)).count;
+    if u == t {
+        return 0 < count;
+    }
+    let other = positions::extent_in(tab, terms::place_of(n, t)).count;
+    if count != other {
+        return false;
+    }
+    run_known(f, n, k, tab, known, u, 0, t)
+}
+
 impl Code<'_, '_> {
     // The same, in the code's file.
     pub fn run_known(&self, known: &mut [usize; RUNS], s: usize, d: u32, t: usize) -> bool
@@ -75,23 +102,14 @@ impl Code<'_, '_> {
         run_known(f.file, f.terms, self.structs, self.table, known, s, d, t)
     }
 
-    // Whether terms u and t have the same primitives, as they are written: as many, and the run of t from the first on. Most that are
-    // compared are one term.
+    // Whether terms u and t have the same primitives, in the code's file.
     pub fn same_known(&self, known: &mut [usize; RUNS], u: usize, t: usize) -> bool
         requires bytes { (u < 256) × (t < 256) }
         requires remembered { Remembered self.now.function.file.now known.old }
         ensures same { result ≡ same_prims self.now.function.file.now u t }
         ensures remembered { Remembered self.now.function.file.now known.new }
     {
-        let n = self.function.terms;
-        let count = positions::extent_in(self.table, terms::place_of(n, u)).count;
-        if u == t {
-            return 0 < count;
-        }
-        let other = positions::extent_in(self.table, terms::place_of(n, t)).count;
-        if count != other {
-            return false;
-        }
-        self.run_known(known, u, 0, t)
+        let f = self.function;
+        same_known(f.file, f.terms, self.structs, self.table, known, u, t)
     }
 }
