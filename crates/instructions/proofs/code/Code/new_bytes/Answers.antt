@@ -1,9 +1,0 @@
--- `instructions::code::Code::new_bytes` meets its contract: by the callees' contracts.
-use mathlib.Core.Path.{◌∙◌}
-use Rattle.rules.specs.Decode.{module_of}
-use Rattle.functions.specs.Functions.{function_at}
-use Rattle.judgment.specs.Rules.{new_bytes_test}
-use Rattle.instructions.proofs.code.Code.new_bytes.Goals as goal
-
-pub returns : goal.returns
-returns c = let a = c.args in let f = a.self.now.function.file.now in c.into_bytes.ensures ∙ new_bytes_test (module_of f) (function_at f a.self.now.function.head) a.a
