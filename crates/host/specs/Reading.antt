@@ -1,6 +1,6 @@
 -- The reader's answer as rules' `Part`, `object_at` case by case, as the code goes, and where that part lies in the lent state.
 -- Assumes nothing.
-use Rattle.std.specs.Prelude.{◌≡◌, refl, Bool, true, false, cond, ◌&&◌, ℕ, zero, suc, ◌+◌, ◌-◌, ◌*◌, ◌/◌, ◌%◌, ◌<◌, ◌≤◌, ltb, leb, length, take, drop, Option, Some, None}
+use Rattle.std.specs.Prelude.{◌≡◌, refl, Bool, true, false, cond, ◌&&◌, ℕ, zero, suc, ◌+◌, ◌-◌, ◌*◌, ◌/◌, ◌%◌, ◌<◌, ◌≤◌, ltb, leb, length, take, drop, Option, Some, None, IfSome}
 use Rattle.std.proofs.Math.Path.{sym}
 use Rattle.std.proofs.Common.{ap, ◌∙◌, subst, arith, length-take, length-drop, ltb-true}
 use Rattle.std.specs.Borrow.{Bor}
@@ -30,6 +30,13 @@ use Rattle.host.specs.declared.object.Part.{Part}
 abbrev pub part_meant : Option Part → rules.Part
 part_meant None = rules.empty_part
 part_meant (Some p) = record { offset = p.offset; size = p.size }
+
+-- of answers whose part, if there is one, is not empty, no two mean the same
+pub part_one : (o q : Option Part) → IfSome o (λ p. 0 < p.size) → IfSome q (λ p. 0 < p.size) → part_meant o ≡ part_meant q → o ≡ q
+part_one None None h k e = refl
+part_one None (Some q) h k e = let z : 0 ≡ q.size = ap (λ (x : rules.Part). x.size) e in absurd (omega arith)
+part_one (Some p) None h k e = let z : p.size ≡ 0 = ap (λ (x : rules.Part). x.size) e in absurd (omega arith)
+part_one (Some p) (Some q) h k e = ap (λ (x : rules.Part). Some (record { offset = x.offset; size = x.size })) e
 
 -- ---- which parts there are
 

@@ -1,5 +1,5 @@
 // The reader of states: the object around an address.
-ghost use Rattle.std.specs.Prelude.{◌≡◌};
+ghost use Rattle.std.specs.Prelude.{◌≡◌, ◌<◌, IfSome};
 ghost use Rattle.rules.specs.Verdict.{verdict_of, IsAccepted};
 ghost use Rattle.rules.specs.Host.{object_of, object_at};
 ghost use Rattle.host.specs.Reading.{part_meant, IsPartOf};
@@ -18,7 +18,8 @@ pub struct Part {
 // Of an accepted module: none where the state is refused.
 fn object_accepted(range: PageRange, file: &[u8], s: &[u8], address: u32) -> Option<Part>
     requires { IsAccepted (verdict_of file.now) }
-    ensures { part_meant result ≡ object_at range file.now s.now address }
+    ensures answer { part_meant result ≡ object_at range file.now s.now address }
+    ensures some { IfSome result (λ part. 0 < part.size) }
 {
     let t = tables_of(file);
     if !passes(range, file, t, s) {
@@ -47,7 +48,8 @@ fn object_accepted(range: PageRange, file: &[u8], s: &[u8], address: u32) -> Opt
 
 // The whole object around the address, used or free, if there is one, of the machine with this range.
 pub fn object_at(range: PageRange, file: &[u8], s: &[u8], address: u32) -> Option<Part>
-    ensures { part_meant result ≡ object_at range file.now s.now address }
+    ensures answer { part_meant result ≡ object_at range file.now s.now address }
+    ensures some { IfSome result (λ part. 0 < part.size) }
 {
     match checker::verdict(file) {
         Ok(_) => object_accepted(range, file, s, address),
@@ -57,7 +59,8 @@ pub fn object_at(range: PageRange, file: &[u8], s: &[u8], address: u32) -> Optio
 
 // The same, of document 01's machine.
 pub fn object(file: &[u8], s: &[u8], address: u32) -> Option<Part>
-    ensures { part_meant result ≡ object_of file.now s.now address }
+    ensures answer { part_meant result ≡ object_of file.now s.now address }
+    ensures some { IfSome result (λ part. 0 < part.size) }
 {
     object_at(all_pages(), file, s, address)
 }

@@ -7,5 +7,5 @@ use Rattle.host.proofs.object.object_at.Goals as goal
 pub object_accepted-requires : goal.object_accepted-requires
 object_accepted-requires c = says_accepted _ c.in-Ok.ensures refl
 
-pub returns-in-Err : goal.returns-in-Err
-returns-in-Err c = object_refused _ _ _ _ c.in-Err.ensures refl
+pub returns-in-Err-clause-answer : goal.returns-in-Err-clause-answer
+returns-in-Err-clause-answer c = object_refused _ _ _ _ c.in-Err.ensures refl
