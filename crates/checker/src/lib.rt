@@ -145,10 +145,11 @@ pub fn verdict(file: &[u8]) -> Result<Counts, Refusal>
 {
     let t = records::form_rules(file)?;
     let w = t.walk;
-    let starts = t.starts;
+    // lent, as a copy would be cleared on every call, also of a file that is refused before
+    let starts = &t.starts;
     term_rules(file, w.terms, w.names)?;
     struct_rules(file, w.terms, w.names)?;
-    function_rules(file, w.terms, w.names, w.functions, &starts)?;
-    let runs_on = typed_rules(file, w.terms, w.names, w.functions, &starts)?;
-    last_rules(file, w.terms, w.names, w.functions, &starts, runs_on)
+    function_rules(file, w.terms, w.names, w.functions, starts)?;
+    let runs_on = typed_rules(file, w.terms, w.names, w.functions, starts)?;
+    last_rules(file, w.terms, w.names, w.functions, starts, runs_on)
 }
