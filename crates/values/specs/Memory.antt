@@ -155,7 +155,7 @@ module _ {f s : Bytes} {n : ℕ} {a : Aim} {m : List (Option Bool)} (holds : Aim
 -- ---- the pointer at an address
 
 -- where a run stands, its regions given as bytes
-stands_under : {f s : Bytes} {n r : ℕ} {h : Home} → StandsAt f s n r h → (t : ℕ) (q : Bytes) {a o : ℕ} {p : Bytes} {b : Bool} → Narrow f → p ≡ map_list s h.frame → o ≡ page_owner s (a / page_bytes)
+pub stands_under : {f s : Bytes} {n r : ℕ} {h : Home} → StandsAt f s n r h → (t : ℕ) (q : Bytes) {a o : ℕ} {p : Bytes} {b : Bool} → Narrow f → p ≡ map_list s h.frame → o ≡ page_owner s (a / page_bytes)
     → StandsIs f r o h.entry p a t q b → Tells b (Stands (module_of f) (typing_of f s n) (sub (under q) ((module_of f).term t)) r a)
 unfolding view
 stands_under {f} {s} {n} {r} home t q {a} narrow ep eo is =
