@@ -68,11 +68,11 @@ fn entry_of(state: &UntestedState, k: u32, i: u32) -> usize
     walk::file::entry_of(x, i as usize)
 }
 
-// The home of region r, if it is live: the highest frame to which it is local.
-pub fn home_of(state: &UntestedState, r: u32) -> Option<Home>
-    ensures { HomeIs state.now.file.now state.now.bytes.now state.now.frames r result }
+// Of n frames: the home of region r, if it is live: the highest frame to which it is local.
+pub fn home_of(state: &UntestedState, n: u32, r: u32) -> Option<Home>
+    ensures { HomeIs state.now.file.now state.now.bytes.now n r result }
 {
-    for k in (0..state.frames).rev() {
+    for k in (0..n).rev() {
         if let Some(i) = local_in(state, k, r) {
             let h = state.head(k);
             let entry = entry_of(state, k, u32::from(h.a) + i);
@@ -84,23 +84,31 @@ pub fn home_of(state: &UntestedState, r: u32) -> Option<Home>
 
 // ---- what its objects are
 
+// Size and number of primitives of the objects of a region whose type is entry v of record 8: the places of an untyped one are a byte
+// each, without a primitive.
+pub fn extent_of(terms: usize, v: usize, tab: &[u64], f: &[u8], structs: usize) -> Extent
+    requires { Table f.now terms structs tab.now }
+    ensures { (result ≡ exact_of (flat (module_of f.now) (entry_type f.now v))) × (Small result) }
+{
+    if v == UNTYPED {
+        return Extent { size: 1, count: 0 };
+    }
+    positions::extent_at(terms, v, tab, f, structs)
+}
+
 impl TypedState<'_> {
-    // Size and number of primitives of the objects of a region whose type is entry v of record 8: the places of an untyped one are a
-    // byte each, without a primitive.
+    // The same of the state's file.
     pub fn extent_of(&self, v: usize) -> Extent
         ensures { (result ≡ exact_of (flat (module_of self.now.state.file.now) (entry_type self.now.state.file.now v))) × (Small result) }
     {
-        if v == UNTYPED {
-            return Extent { size: 1, count: 0 };
-        }
-        positions::extent_at(self.terms, v, self.extents, self.state.file, self.structs)
+        extent_of(self.terms, v, self.extents, self.state.file, self.structs)
     }
 
     // Those of region r. (Where it is not live, an integer of no bytes. One more than the limit stands for no size.)
     fn region_extent(&self, r: u32) -> Extent
         ensures { (result ≡ exact_of (flat (module_of self.now.state.file.now) (region_tree self.now.state.file.now self.now.state.bytes.now self.now.state.frames r))) × (Small result) }
     {
-        match home_of(&self.state, r) {
+        match home_of(&self.state, self.state.frames, r) {
             Some(home) => self.extent_of(home.entry),
             None => Extent { size: 0, count: 1 },
         }

@@ -51,7 +51,7 @@ impl MappedState<'_> {
     {
         let typed = &self.typed;
         let state = &typed.state;
-        let Some(home) = home_of(state, u32::from(r)) else {
+        let Some(home) = home_of(state, state.frames, u32::from(r)) else {
             return false;
         };
         let p = map_of(state.bytes, home.frame);
@@ -82,7 +82,7 @@ impl MappedState<'_> {
         ensures { let s = self.now.typed.state in Tells result (InUntyped (typing_of s.file.now s.bytes.now s.frames) many r x) }
     {
         let state = &self.typed.state;
-        let Some(home) = home_of(state, u32::from(r)) else {
+        let Some(home) = home_of(state, state.frames, u32::from(r)) else {
             return false;
         };
         let owner = state::total::owner(state.bytes, x / Machine::PAGE_BYTES);

@@ -6,6 +6,7 @@ ghost use Rattle.stack.specs.Tells.{Tells};
 ghost use Rattle.values.specs.Memory.{Points, PrimitiveAt, TargetIs, AimHolds, LastHolds, AimsAt};
 
 use memo::{Memo, forget, stands_known};
+use objects::typed::TypedState;
 use objects::{Home, home_of};
 use registers::map_of;
 use registers::mapped::MappedState;
@@ -59,16 +60,16 @@ pub enum Target {
     },
 }
 
-// Where pointers of term t under `to` lead.
-pub fn target_of(mapped: &MappedState, to: [u8; 8], t: usize) -> Target
-    requires { Points mapped.now.typed.state.file.now t }
-    ensures { let s = mapped.now.typed.state in TargetIs s.file.now s.bytes.now s.frames to t result }
+// Of n frames: where pointers of term t under `to` lead.
+pub fn target_of(typed: &TypedState, n: u32, to: [u8; 8], t: usize) -> Target
+    requires { Points typed.now.state.file.now t }
+    ensures { let s = typed.now.state in TargetIs s.file.now s.bytes.now n to t result }
 {
-    let state = &mapped.typed.state;
+    let state = &typed.state;
     let f = state.file;
-    let terms = mapped.typed.terms;
+    let terms = typed.terms;
     let region = live_of(&to, target_region(f, terms, t)).0;
-    let Some(home) = home_of(state, u32::from(region)) else {
+    let Some(home) = home_of(state, n, u32::from(region)) else {
         return Target::Nowhere;
     };
     if form(f, terms, t) == 11 {
@@ -76,7 +77,7 @@ pub fn target_of(mapped: &MappedState, to: [u8; 8], t: usize) -> Target
         return Target::Untyped { region, home, many };
     }
     let map = map_of(state.bytes, home.frame);
-    let e = mapped.typed.extent_of(home.entry);
+    let e = typed.extent_of(home.entry);
     let run = inner(f, terms, t);
     Target::Run {
         region,
@@ -95,35 +96,36 @@ pub struct Aim {
     pub target: Target,
 }
 
-// The aim of pointers of term t under `to`: the last one, with what is remembered of it, if they are of the same type.
+// Of n frames: the aim of pointers of term t under `to`: the last one, with what is remembered of it, if they are of the same type.
 pub fn aim_at(
-    mapped: &MappedState,
+    typed: &TypedState,
+    n: u32,
     to: [u8; 8],
     t: usize,
     last: Option<Aim>,
     memo: &mut Memo,
 ) -> Aim
-    requires points { Points mapped.now.typed.state.file.now t }
-    requires last { let s = mapped.now.typed.state in LastHolds s.file.now s.bytes.now s.frames last memo.old }
-    ensures { let s = mapped.now.typed.state in AimsAt s.file.now s.bytes.now s.frames to t result memo.new }
+    requires points { Points typed.now.state.file.now t }
+    requires last { let s = typed.now.state in LastHolds s.file.now s.bytes.now n last memo.old }
+    ensures { let s = typed.now.state in AimsAt s.file.now s.bytes.now n to t result memo.new }
 {
     if let Some(aim) = last {
-        let there = terms::place_of(mapped.typed.terms, aim.t);
-        let here = terms::place_of(mapped.typed.terms, t);
-        if equality::same_places(mapped.typed.state.file, there, &aim.to, here, &to) {
+        let there = terms::place_of(typed.terms, aim.t);
+        let here = terms::place_of(typed.terms, t);
+        if equality::same_places(typed.state.file, there, &aim.to, here, &to) {
             return aim;
         }
     }
-    let target = target_of(mapped, to, t);
+    let target = target_of(typed, n, to, t);
     forget(memo);
     Aim { t, to, target }
 }
 
-// The pointer at address x: zero, or where its run stands, or its bytes lie.
-pub fn pointer_ok(mapped: &MappedState, aim: Aim, x: u32, memo: &mut Memo) -> bool
+// Of n frames: the pointer at address x: zero, or where its run stands, or its bytes lie.
+pub fn pointer_ok(mapped: &MappedState, n: u32, aim: Aim, x: u32, memo: &mut Memo) -> bool
     requires address { x < 2 ^ 30 }
-    requires holds { let s = mapped.now.typed.state in AimHolds s.file.now s.bytes.now s.frames aim memo.old }
-    ensures { let s = mapped.now.typed.state in (Tells result (PrimitiveAt s.file.now s.bytes.now s.frames aim.to aim.t x)) × (AimHolds s.file.now s.bytes.now s.frames aim memo.new) }
+    requires holds { let s = mapped.now.typed.state in AimHolds s.file.now s.bytes.now n aim memo.old }
+    ensures { let s = mapped.now.typed.state in (Tells result (PrimitiveAt s.file.now s.bytes.now n aim.to aim.t x)) × (AimHolds s.file.now s.bytes.now n aim memo.new) }
 {
     let s = mapped.typed.state.bytes;
     let v = word(s, x);

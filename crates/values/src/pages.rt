@@ -53,7 +53,7 @@ fn place_ok(
     ensures { let s = mapped.now.typed.state in (Tells result (PlaceOk s.file.now s.bytes.now s.frames p size aim.to aim.t d j)) × (AimHolds s.file.now s.bytes.now s.frames aim memo.new) }
 {
     let x = Machine::PAGE_BYTES * p + (size * j + d) as u32;
-    pointer_ok(mapped, aim, x, memo)
+    pointer_ok(mapped, mapped.typed.state.frames, aim, x, memo)
 }
 
 fn places_ok(mapped: &MappedState, p: u32, size: usize, d: usize, aim: Aim, memo: &mut Memo) -> bool
@@ -139,7 +139,14 @@ fn position_ok(
     if form(f, terms, t) == 1 {
         return true;
     }
-    let aim = aim_at(mapped, x.to, t, *last, memo);
+    let aim = aim_at(
+        &mapped.typed,
+        mapped.typed.state.frames,
+        x.to,
+        t,
+        *last,
+        memo,
+    );
     *last = Some(aim);
     let owner = state::total::owner(mapped.typed.state.bytes, p);
     all_places(mapped, owner, o.size, x.off, aim, memo)
@@ -207,7 +214,7 @@ fn page_ok(mapped: &MappedState, p: u32) -> bool
     if !unseen(state.bytes, p, owner) {
         return true;
     }
-    let Some(home) = home_of(state, owner - 1) else {
+    let Some(home) = home_of(state, state.frames, owner - 1) else {
         return true;
     };
     // untyped bytes are no primitives

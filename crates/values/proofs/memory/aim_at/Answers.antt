@@ -6,5 +6,5 @@ use Rattle.values.proofs.memory.aim_at.Goals as goal
 pub returns-then-same_places : goal.returns-then-same_places
 returns-then-same_places c =
     aim_same
-    (subst (λ a. LastHolds c.args.mapped.now.typed.state.file.now c.args.mapped.now.typed.state.bytes.now c.args.mapped.now.typed.state.frames a c.args.memo.now) c.in-Some.is c.requires.last)
-    c.args.mapped.now.typed.table.counted.terms c.place_of-there.ensures.0 c.place_of-here.ensures.0 c.same_places.ensures c.if-same_places.true
+    (subst (λ a. LastHolds c.args.typed.now.state.file.now c.args.typed.now.state.bytes.now c.args.n a c.args.memo.now) c.in-Some.is c.requires.last)
+    c.args.typed.now.table.counted.terms c.place_of-there.ensures.0 c.place_of-here.ensures.0 c.same_places.ensures c.if-same_places.true
