@@ -121,22 +121,23 @@ pub fn aim_at(
     Aim { t, to, target }
 }
 
-// Of n frames: the pointer at address x: zero, or where its run stands, or its bytes lie.
-pub fn pointer_ok(mapped: &MappedState, n: u32, aim: Aim, x: u32, memo: &mut Memo) -> bool
+// Of n frames: the pointer at address x: zero, or where its run stands, or its bytes lie. (The aim is lent, not copied: it is asked for
+// each place of each page.)
+pub fn pointer_ok(mapped: &MappedState, n: u32, aim: &Aim, x: u32, memo: &mut Memo) -> bool
     requires address { x < 2 ^ 30 }
-    requires holds { let s = mapped.now.typed.state in AimHolds s.file.now s.bytes.now n aim memo.old }
-    ensures { let s = mapped.now.typed.state in (Tells result (PrimitiveAt s.file.now s.bytes.now n aim.to aim.t x)) × (AimHolds s.file.now s.bytes.now n aim memo.new) }
+    requires holds { let s = mapped.now.typed.state in AimHolds s.file.now s.bytes.now n aim.now memo.old }
+    ensures { let s = mapped.now.typed.state in (Tells result (PrimitiveAt s.file.now s.bytes.now n aim.now.to aim.now.t x)) × (AimHolds s.file.now s.bytes.now n aim.now memo.new) }
 {
     let s = mapped.typed.state.bytes;
     let v = word(s, x);
     if v == 0 {
         return true;
     }
-    match aim.target {
+    match &aim.target {
         Target::Nowhere => false,
         Target::Untyped { region, home, many } => {
             let owner = state::total::owner(s, v / Machine::PAGE_BYTES);
-            in_untyped(Live(region), owner, home.entry, v, many)
+            in_untyped(Live(*region), owner, home.entry, v, *many)
         }
         Target::Run {
             region,
@@ -150,13 +151,13 @@ pub fn pointer_ok(mapped: &MappedState, n: u32, aim: Aim, x: u32, memo: &mut Mem
                 mapped.typed.state.file,
                 mapped.typed.terms,
                 mapped.typed.structs,
-                Live(region),
+                Live(*region),
                 owner,
                 home.entry,
-                &map,
-                size,
+                map,
+                *size,
                 v,
-                run,
+                *run,
                 &aim.to,
                 mapped.typed.extents,
                 memo,

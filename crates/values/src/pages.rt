@@ -44,22 +44,29 @@ fn place_ok(
     p: u32,
     size: usize,
     d: usize,
-    aim: Aim,
+    aim: &Aim,
     j: usize,
     memo: &mut Memo,
 ) -> bool
     requires within { (p < pages) × (d ≤ size_limit) × (size * suc j ≤ page_bytes) }
-    requires holds { let s = mapped.now.typed.state in AimHolds s.file.now s.bytes.now s.frames aim memo.old }
-    ensures { let s = mapped.now.typed.state in (Tells result (PlaceOk s.file.now s.bytes.now s.frames p size aim.to aim.t d j)) × (AimHolds s.file.now s.bytes.now s.frames aim memo.new) }
+    requires holds { let s = mapped.now.typed.state in AimHolds s.file.now s.bytes.now s.frames aim.now memo.old }
+    ensures { let s = mapped.now.typed.state in (Tells result (PlaceOk s.file.now s.bytes.now s.frames p size aim.now.to aim.now.t d j)) × (AimHolds s.file.now s.bytes.now s.frames aim.now memo.new) }
 {
     let x = Machine::PAGE_BYTES * p + (size * j + d) as u32;
     pointer_ok(mapped, mapped.typed.state.frames, aim, x, memo)
 }
 
-fn places_ok(mapped: &MappedState, p: u32, size: usize, d: usize, aim: Aim, memo: &mut Memo) -> bool
+fn places_ok(
+    mapped: &MappedState,
+    p: u32,
+    size: usize,
+    d: usize,
+    aim: &Aim,
+    memo: &mut Memo,
+) -> bool
     requires within { (p < pages) × (d ≤ size_limit) }
-    requires holds { let s = mapped.now.typed.state in AimHolds s.file.now s.bytes.now s.frames aim memo.old }
-    ensures { let s = mapped.now.typed.state in (Tells result ((j : ℕ) → j < page_bytes → PlaceOk s.file.now s.bytes.now s.frames p size aim.to aim.t d j)) × (AimHolds s.file.now s.bytes.now s.frames aim memo.new) }
+    requires holds { let s = mapped.now.typed.state in AimHolds s.file.now s.bytes.now s.frames aim.now memo.old }
+    ensures { let s = mapped.now.typed.state in (Tells result ((j : ℕ) → j < page_bytes → PlaceOk s.file.now s.bytes.now s.frames p size aim.now.to aim.now.t d j)) × (AimHolds s.file.now s.bytes.now s.frames aim.now memo.new) }
 {
     for j in 0..places_in(size) {
         if !place_ok(mapped, p, size, d, aim, j, memo) {
@@ -75,13 +82,13 @@ fn owned_places(
     owner: u8,
     size: usize,
     d: usize,
-    aim: Aim,
+    aim: &Aim,
     q: u32,
     memo: &mut Memo,
 ) -> bool
     requires within { (q < pages) × (d ≤ size_limit) }
-    requires holds { let s = mapped.now.typed.state in AimHolds s.file.now s.bytes.now s.frames aim memo.old }
-    ensures { let s = mapped.now.typed.state in (Tells result (OwnedPlaces s.file.now s.bytes.now s.frames owner size aim.to aim.t d q)) × (AimHolds s.file.now s.bytes.now s.frames aim memo.new) }
+    requires holds { let s = mapped.now.typed.state in AimHolds s.file.now s.bytes.now s.frames aim.now memo.old }
+    ensures { let s = mapped.now.typed.state in (Tells result (OwnedPlaces s.file.now s.bytes.now s.frames owner size aim.now.to aim.now.t d q)) × (AimHolds s.file.now s.bytes.now s.frames aim.now memo.new) }
 {
     if state::total::owner(mapped.typed.state.bytes, q) != owner {
         return true;
@@ -95,12 +102,12 @@ fn all_places(
     owner: u8,
     size: usize,
     d: usize,
-    aim: Aim,
+    aim: &Aim,
     memo: &mut Memo,
 ) -> bool
     requires within { d ≤ size_limit }
-    requires holds { let s = mapped.now.typed.state in AimHolds s.file.now s.bytes.now s.frames aim memo.old }
-    ensures { let s = mapped.now.typed.state in (Tells result ((q : ℕ) → q < pages → OwnedPlaces s.file.now s.bytes.now s.frames owner size aim.to aim.t d q)) × (AimHolds s.file.now s.bytes.now s.frames aim memo.new) }
+    requires holds { let s = mapped.now.typed.state in AimHolds s.file.now s.bytes.now s.frames aim.now memo.old }
+    ensures { let s = mapped.now.typed.state in (Tells result ((q : ℕ) → q < pages → OwnedPlaces s.file.now s.bytes.now s.frames owner size aim.now.to aim.now.t d q)) × (AimHolds s.file.now s.bytes.now s.frames aim.now memo.new) }
 {
     for q in 0..Machine::PAGES {
         if !owned_places(mapped, owner, size, d, aim, q, memo) {
@@ -149,7 +156,7 @@ fn position_ok(
     );
     *last = Some(aim);
     let owner = state::total::owner(mapped.typed.state.bytes, p);
-    all_places(mapped, owner, o.size, x.off, aim, memo)
+    all_places(mapped, owner, o.size, x.off, &aim, memo)
 }
 
 fn positions_ok(mapped: &MappedState, p: u32, o: &Objects) -> bool

@@ -14,7 +14,7 @@ returns-in-Nowhere c = (pointer_none c.word-v.ensures c.if-v-eq0.false (to_none 
 pub in_untyped-requires : goal.in_untyped-requires
 in_untyped-requires c =
     let m = c.args.mapped.now in
-    number_few m.typed.state.file.now m.typed.terms c.args.aim.t m.typed.state.file_bytes m.typed.table.counted.terms (to_bytes c.requires.holds c.in-Untyped.is).number
+    number_few m.typed.state.file.now m.typed.terms c.args.aim.now.t m.typed.state.file_bytes m.typed.table.counted.terms (to_bytes c.requires.holds c.in-Untyped.is).number
 
 pub returns-in-Untyped : goal.returns-in-Untyped
 returns-in-Untyped c = (pointer_bytes c.word-v.ensures c.args.mapped.now.narrow c.if-v-eq0.false (to_bytes c.requires.holds c.in-Untyped.is) c.owner-owner.ensures c.in_untyped.ensures, c.requires.holds)
