@@ -68,7 +68,8 @@ fn entry_of(state: &UntestedState, k: u32, i: u32) -> usize
     walk::file::entry_of(x, i as usize)
 }
 
-// Of n frames: the home of region r, if it is live: the highest frame to which it is local.
+// Of n frames: the home of region r, if it is live: the highest frame to which it is local. (Callers lend a copy of the state that they
+// hold: what this call has a reference to lies in memory, and is read again wherever it is used.)
 pub fn home_of(state: &UntestedState, n: u32, r: u32) -> Option<Home>
     ensures { HomeIs state.now.file.now state.now.bytes.now n r result }
 {
@@ -108,7 +109,8 @@ impl TypedState<'_> {
     fn region_extent(&self, r: u32) -> Extent
         ensures { (result ≡ exact_of (flat (module_of self.now.state.file.now) (region_tree self.now.state.file.now self.now.state.bytes.now self.now.state.frames r))) × (Small result) }
     {
-        match home_of(&self.state, self.state.frames, r) {
+        let state = self.state;
+        match home_of(&state, state.frames, r) {
             Some(home) => self.extent_of(home.entry),
             None => Extent { size: 0, count: 1 },
         }

@@ -50,8 +50,8 @@ impl MappedState<'_> {
         ensures { let s = self.now.typed.state in Tells result (Stands (module_of s.file.now) (typing_of s.file.now s.bytes.now s.frames) (close (frame_map s.bytes.now k) ((module_of s.file.now).term t)) r x) }
     {
         let typed = &self.typed;
-        let state = &typed.state;
-        let Some(home) = home_of(state, state.frames, u32::from(r)) else {
+        let state = typed.state;
+        let Some(home) = home_of(&state, state.frames, u32::from(r)) else {
             return false;
         };
         let p = map_of(state.bytes, home.frame);
@@ -81,8 +81,8 @@ impl MappedState<'_> {
         requires { many < 2 ^ 32 }
         ensures { let s = self.now.typed.state in Tells result (InUntyped (typing_of s.file.now s.bytes.now s.frames) many r x) }
     {
-        let state = &self.typed.state;
-        let Some(home) = home_of(state, state.frames, u32::from(r)) else {
+        let state = self.typed.state;
+        let Some(home) = home_of(&state, state.frames, u32::from(r)) else {
             return false;
         };
         let owner = state::total::owner(state.bytes, x / Machine::PAGE_BYTES);

@@ -65,11 +65,11 @@ pub fn target_of(typed: &TypedState, n: u32, to: [u8; 8], t: usize) -> Target
     requires { Points typed.now.state.file.now t }
     ensures { let s = typed.now.state in TargetIs s.file.now s.bytes.now n to t result }
 {
-    let state = &typed.state;
+    let state = typed.state;
     let f = state.file;
     let terms = typed.terms;
     let region = live_of(&to, target_region(f, terms, t)).0;
-    let Some(home) = home_of(state, n, u32::from(region)) else {
+    let Some(home) = home_of(&state, n, u32::from(region)) else {
         return Target::Nowhere;
     };
     if form(f, terms, t) == 11 {

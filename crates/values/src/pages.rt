@@ -213,15 +213,16 @@ fn page_ok(mapped: &MappedState, p: u32) -> bool
     requires { p < pages }
     ensures { let s = mapped.now.typed.state in Tells result (Leads s.file.now s.bytes.now s.frames p) }
 {
-    let state = &mapped.typed.state;
-    let owner = u32::from(state::total::owner(state.bytes, p));
+    let s = mapped.typed.state.bytes;
+    let owner = u32::from(state::total::owner(s, p));
     if owner == 0 {
         return true;
     }
-    if !unseen(state.bytes, p, owner) {
+    if !unseen(s, p, owner) {
         return true;
     }
-    let Some(home) = home_of(state, state.frames, owner - 1) else {
+    let state = mapped.typed.state;
+    let Some(home) = home_of(&state, state.frames, owner - 1) else {
         return true;
     };
     // untyped bytes are no primitives
