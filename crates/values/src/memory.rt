@@ -2,6 +2,8 @@
 // its values.)
 ghost use Rattle.std.specs.Prelude.{◌≡◌, ◌<◌, ◌^◌};
 ghost use Rattle.rules.specs.State.{view, memory_number};
+ghost use Rattle.positions.specs.Table.{Table};
+ghost use Rattle.positions.specs.Maps.{Narrow};
 ghost use Rattle.stack.specs.Tells.{Tells};
 ghost use Rattle.values.specs.Memory.{Points, PrimitiveAt, TargetIs, AimHolds, LastHolds, AimsAt};
 
@@ -9,7 +11,6 @@ use memo::{Memo, forget, stands_known};
 use objects::typed::TypedState;
 use objects::{Home, home_of};
 use registers::map_of;
-use registers::mapped::MappedState;
 use runs::in_untyped;
 use state::Machine;
 use state::total::memory_byte;
@@ -123,12 +124,23 @@ pub fn aim_at(
 
 // Of n frames: the pointer at address x: zero, or where its run stands, or its bytes lie. (The aim is lent, not copied: it is asked for
 // each place of each page.)
-pub fn pointer_ok(mapped: &MappedState, n: u32, aim: &Aim, x: u32, memo: &mut Memo) -> bool
+pub fn pointer_ok(
+    f: &[u8],
+    terms: usize,
+    structs: usize,
+    tab: &[u64],
+    s: &[u8],
+    n: u32,
+    aim: &Aim,
+    x: u32,
+    memo: &mut Memo,
+) -> bool
+    requires table { Table f.now terms structs tab.now }
+    requires narrow { Narrow f.now }
     requires address { x < 2 ^ 30 }
-    requires holds { let s = mapped.now.typed.state in AimHolds s.file.now s.bytes.now n aim.now memo.old }
-    ensures { let s = mapped.now.typed.state in (Tells result (PrimitiveAt s.file.now s.bytes.now n aim.now.to aim.now.t x)) × (AimHolds s.file.now s.bytes.now n aim.now memo.new) }
+    requires holds { AimHolds f.now s.now n aim.now memo.old }
+    ensures { (Tells result (PrimitiveAt f.now s.now n aim.now.to aim.now.t x)) × (AimHolds f.now s.now n aim.now memo.new) }
 {
-    let s = mapped.typed.state.bytes;
     let v = word(s, x);
     if v == 0 {
         return true;
@@ -148,9 +160,9 @@ pub fn pointer_ok(mapped: &MappedState, n: u32, aim: &Aim, x: u32, memo: &mut Me
         } => {
             let owner = state::total::owner(s, v / Machine::PAGE_BYTES);
             stands_known(
-                mapped.typed.state.file,
-                mapped.typed.terms,
-                mapped.typed.structs,
+                f,
+                terms,
+                structs,
                 Live(*region),
                 owner,
                 home.entry,
@@ -159,7 +171,7 @@ pub fn pointer_ok(mapped: &MappedState, n: u32, aim: &Aim, x: u32, memo: &mut Me
                 v,
                 *run,
                 &aim.to,
-                mapped.typed.extents,
+                tab,
                 memo,
             )
         }

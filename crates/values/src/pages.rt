@@ -53,7 +53,18 @@ fn place_ok(
     ensures { let s = mapped.now.typed.state in (Tells result (PlaceOk s.file.now s.bytes.now s.frames p size aim.now.to aim.now.t d j)) × (AimHolds s.file.now s.bytes.now s.frames aim.now memo.new) }
 {
     let x = Machine::PAGE_BYTES * p + (size * j + d) as u32;
-    pointer_ok(mapped, mapped.typed.state.frames, aim, x, memo)
+    let typed = &mapped.typed;
+    pointer_ok(
+        typed.state.file,
+        typed.terms,
+        typed.structs,
+        typed.extents,
+        typed.state.bytes,
+        typed.state.frames,
+        aim,
+        x,
+        memo,
+    )
 }
 
 fn places_ok(

@@ -13,17 +13,16 @@ returns-in-Nowhere c = (pointer_none c.word-v.ensures c.if-v-eq0.false (to_none 
 
 pub in_untyped-requires : goal.in_untyped-requires
 in_untyped-requires c =
-    let m = c.args.mapped.now in
-    number_few m.typed.state.file.now m.typed.terms c.args.aim.now.t m.typed.state.file_bytes m.typed.table.counted.terms (to_bytes c.requires.holds c.in-Untyped.is).number
+    number_few c.args.f.now c.args.terms c.args.aim.now.t (search rules) c.requires.table.counted.terms (to_bytes c.requires.holds c.in-Untyped.is).number
 
 pub returns-in-Untyped : goal.returns-in-Untyped
-returns-in-Untyped c = (pointer_bytes c.word-v.ensures c.args.mapped.now.narrow c.if-v-eq0.false (to_bytes c.requires.holds c.in-Untyped.is) c.owner-owner.ensures c.in_untyped.ensures, c.requires.holds)
+returns-in-Untyped c = (pointer_bytes c.word-v.ensures c.requires.narrow c.if-v-eq0.false (to_bytes c.requires.holds c.in-Untyped.is) c.owner-owner.ensures c.in_untyped.ensures, c.requires.holds)
 
 pub stands_known-requires : goal.stands_known-requires
 stands_known-requires c =
     let w = to_run c.requires.holds c.in-Run.is in
-    record { fact_1 = (c.args.mapped.now.typed.table, map_short _ _ w.map_is, search rules, w.size); fact_2 = remembered c.requires.holds c.in-Run.is }
+    record { fact_1 = (c.requires.table, map_short _ _ w.map_is, search rules, w.size); fact_2 = remembered c.requires.holds c.in-Run.is }
 
 pub returns-in-Run : goal.returns-in-Run
 returns-in-Run c =
-    (pointer_run c.word-v.ensures c.args.mapped.now.narrow c.if-v-eq0.false (to_run c.requires.holds c.in-Run.is) c.owner-owner-in-Run.ensures c.stands_known.ensures.0, aim_kept c.requires.holds c.in-Run.is c.stands_known.ensures.1)
+    (pointer_run c.word-v.ensures c.requires.narrow c.if-v-eq0.false (to_run c.requires.holds c.in-Run.is) c.owner-owner-in-Run.ensures c.stands_known.ensures.0, aim_kept c.requires.holds c.in-Run.is c.stands_known.ensures.1)
