@@ -1,6 +1,6 @@
 #!/usr/bin/env python3
-"""tools/forms.py [-v]: counts, in the sources of crates/, the places of docs/DESIGN-PASS.md by tokens: comments and strings are taken out first, and
-clauses, parameters and match arms are found by their brackets. With -v each place is printed. Run at the top of the checkout."""
+"""tools/forms.py [-v]: counts, in the sources of crates/, the places of docs/DESIGN-PASS.md by tokens: comments are left out, a string is one
+token, clauses and parameters are found by their brackets, and an arm by a number by the => behind it. With -v each place is printed. Run at the top of the checkout."""
 import collections
 import glob
 import re
