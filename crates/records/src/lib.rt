@@ -95,13 +95,23 @@ pub fn record_rules(f: &[u8], t: Tables) -> Result<(), Refusal>
     }
 }
 
+// Refusal 4; of a file that passes, its tables. A function of its own, as the tables are cleared at its entry: not for a file that is
+// refused before.
+#[inline(never)]
+fn fitting_tables(f: &[u8]) -> Result<Tables, Refusal>
+    ensures answer { outcome_meant result ≡ records_of f.now }
+    ensures tables { IfOk result (λ t. t ≡ tables_of f.now) }
+{
+    let t = walk::tables::tables_of(f);
+    record_rules(f, t)?;
+    Ok(t)
+}
+
 // Refusals 1, 2, 3 and 4, in order; of a file that passes, its tables.
 pub fn form_rules(f: &[u8]) -> Result<Tables, Refusal>
     ensures answer { outcome_meant result ≡ checked_of f.now }
     ensures tables { IfOk result (λ t. t ≡ tables_of f.now) }
 {
     framing::framing(f)?;
-    let t = walk::tables::tables_of(f);
-    record_rules(f, t)?;
-    Ok(t)
+    fitting_tables(f)
 }

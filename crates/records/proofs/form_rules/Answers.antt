@@ -8,10 +8,5 @@ returns-in_err-framing-clause-answer c =
     let p = err_from_is_err_and c.from_residual.result c.from_residual.ensures.1 in
     rw (p.1, p.2) (checked_refused _ c.in_err-framing.ensures)
 
-pub returns-in_err-record_rules-clause-answer : goal.returns-in_err-record_rules-clause-answer
-returns-in_err-record_rules-clause-answer c =
-    let p = err_from_is_err_and c.from_residual-in_err-record_rules.result c.from_residual-in_err-record_rules.ensures.1 in
-    rw (p.1, p.2) (checked_framed _ c.in_ok-framing.ensures c.in_err-record_rules.ensures)
-
 pub returns-clause-answer : goal.returns-clause-answer
-returns-clause-answer c = checked_framed _ c.in_ok-framing.ensures c.in_ok-record_rules.ensures
+returns-clause-answer c = checked_framed _ c.in_ok-framing.ensures c.fitting_tables.ensures.answer
