@@ -6,6 +6,7 @@ ghost use Rattle.std.specs.Prelude.{◌≡◌, [], ◌∷◌, ◌+◌, ◌*◌, 
 ghost use Rattle.rules.specs.Refusals.{number_of, place_of, verdict_meant};
 ghost use Rattle.lines.specs.Lines.{digit as digitOf, space, decimal, line_of, verdict_line, refused_line, accepted_word, running_word};
 ghost use Rattle.lines.specs.Writing.{Puts, pair_of, most_digits, most_line};
+ghost use Rattle.lines.specs.Said.{verdict_said};
 
 use rules::{Counts, Refusal};
 
@@ -110,13 +111,24 @@ fn accepted_line(out: &mut [u8], at: usize, counts: Counts) -> usize
     j + 1
 }
 
-// The verdict's line.
-pub fn verdict_line(out: &mut [u8], at: usize, v: Result<Counts, Refusal>) -> usize
+// The line of a verdict: what an accepted module has, or the number and the place of a refusal, whichever these are.
+pub fn verdict_line(out: &mut [u8], at: usize, v: Result<Counts, (usize, usize)>) -> usize
+    requires { at + most_line ≤ length out.old }
+    ensures { Puts out.old out.new at result (verdict_line (verdict_said v)) × (result ≤ at + most_line) }
+{
+    match v {
+        Ok(counts) => accepted_line(out, at, counts),
+        Err((number, place)) => refused_line(out, at, number as u64, place as u64),
+    }
+}
+
+// The line of the checker's answer.
+pub fn checked_line(out: &mut [u8], at: usize, v: Result<Counts, Refusal>) -> usize
     requires { at + most_line ≤ length out.old }
     ensures { Puts out.old out.new at result (verdict_line (verdict_meant v)) × (result ≤ at + most_line) }
 {
     match v {
-        Ok(counts) => accepted_line(out, at, counts),
-        Err(e) => refusal_line(out, at, e),
+        Ok(counts) => verdict_line(out, at, Ok(counts)),
+        Err(e) => verdict_line(out, at, Err((usize::from(e.number()), e.place()))),
     }
 }

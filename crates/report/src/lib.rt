@@ -10,7 +10,7 @@ ghost use Rattle.lines.specs.Writing.{Puts, most_line};
 ghost use Rattle.report.specs.Report.{answer_line};
 
 use host::go::{Went, go};
-use lines::{pair_line, refusal_line, running_line, verdict_line};
+use lines::{checked_line, pair_line, refusal_line, running_line};
 use opening::open;
 use rules::Refusal;
 use run::Outcome;
@@ -52,7 +52,7 @@ pub fn report(file: &[u8], form: &[u8], out: &mut [u8; REPORT_BYTES]) -> usize
     ensures { Puts out.old out.new 0 result (printed file.now form.now) × (result ≤ length out.new) }
 {
     let v = checker::verdict(file);
-    let n = verdict_line(out, 0, v);
+    let n = checked_line(out, 0, v);
     match v {
         Ok(_) => went_line(out, n, open_and_go(file, form)),
         Err(_) => n,
